@@ -1,0 +1,3 @@
+-- What lists and moments are.
+pub mod formers
+pub mod Instant
