@@ -1,3 +1,5 @@
--- What lists and moments are.
+-- What lists, moments and values are, and how they are ordered.
 pub mod formers
 pub mod Instant
+pub mod Order
+pub mod Ascending

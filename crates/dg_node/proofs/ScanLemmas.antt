@@ -1,0 +1,292 @@
+-- The bodies that are taken apart are those of the forms.
+use Rattle.std.proofs.Common.{◌≡◌, ℕ, ◌+◌, ◌<◌, ◌≤◌, Bool, true, false, not, ◌&&◌, ◌||◌, cond, eqb, List, [], ◌∷◌, ◌++◌, length, Option, Some, None, refl, ap, sym, subst, ◌∙◌, arith}
+use Rattle.std.specs.Prelude.{codes, nat_lt, nat_le, IfSome, IfNone}
+use Rattle.std.specs.Option.{option_map, option_and_then}
+use Rattle.std.specs.List.{list_all, AllByRecursion}
+use Rattle.std.specs.Char.{digit_value}
+use Rattle.std.specs.Str.Parse.{AllDigits, digits_value}
+use Rattle.std.proofs.lemmas.Bool.{false≢true, eqb-true}
+use Rattle.std.proofs.lemmas.Bool.Decides.{nat_tests}
+use Rattle.dg_wire.specs.Names.{starts_name, goes_on, is_dot_before, is_name_end, is_name}
+use Rattle.dg_node.specs.Bodies.{is_predicate, is_plain, is_reserved, IsNode, Declares, Sets, Asks}
+use Rattle.dg_node.specs.Scanning.{after_front, before_end, cut_at, is_hex, uid_of, declared_by, plain_triple, set_by, asked_by}
+use Rattle.dg_node.proofs.CutLemmas.{passed, after_front-sound, after_front-append, before_end-sound, before_end-append, cut_at-sound, cut_at-first, Lacks}
+use Rattle.dg_node.proofs.HexLemmas.{all_hex}
+
+both : (a b : Bool) → (a && b) ≡ true → (a ≡ true) × (b ≡ true)
+both true b h = (refl, h)
+both false b h = absurd (false≢true h)
+
+joined : (a b : Bool) → a ≡ true → b ≡ true → (a && b) ≡ true
+joined true b h k = k
+joined false b h k = absurd (false≢true h)
+
+no_some : {A : Type 0} (x : A) → None ≡ Some x → ⊥
+no_some x e = cc
+
+-- what a chain of steps gave
+record Stepped {A B : Type 0} (f : A → Option B) (o : Option A) (y : B) : Type 0 where
+  value : A
+  first : o ≡ Some value
+  then : f value ≡ Some y
+
+stepped : {A B : Type 0} (f : A → Option B) (o : Option A) (y : B) → option_and_then f o ≡ Some y → Stepped f o y
+stepped f None y e = absurd (no_some y e)
+stepped f (Some x) y e = record { value = x; first = refl; then = e }
+
+-- ---- bytes that a cut is made at stand in no digits and no name
+
+no_digit : (byte d : ℕ) → (digit_value byte < 16 → ⊥) → digit_value d < 16 → eqb d byte ≡ false
+no_digit byte d other h = by (eqb d byte) refl
+  where
+    by : (b : Bool) → eqb d byte ≡ b → b ≡ false
+    by false e = refl
+    by true e = absurd (other (subst (λ (n : ℕ). digit_value n < 16) (eqb-true d byte e) h))
+
+digits_lack : (byte : ℕ) (ds : List ℕ) → (digit_value byte < 16 → ⊥) → AllDigits 16 ds → Lacks byte ds
+digits_lack byte [] other h = tt
+digits_lack byte (d ∷ ds) other h = (no_digit byte d other h.0, digits_lack byte ds other h.1)
+
+starts_lack : (c : ℕ) → starts_name c ≡ true → eqb c 62 ≡ false
+starts_lack c h = grind (arith, nat_tests)
+
+part_lack : (c : ℕ) (cs : List ℕ) → (goes_on c || is_dot_before c cs) ≡ true → eqb c 62 ≡ false
+part_lack c [] h = grind (arith, nat_tests)
+part_lack c (d ∷ ds) h = grind (arith, nat_tests)
+
+end_lack : (cs : List ℕ) → is_name_end cs ≡ true → Lacks 62 cs
+end_lack [] h = tt
+end_lack (c ∷ cs) h =
+    let parts = both (goes_on c || is_dot_before c cs) (is_name_end cs) h in
+    (part_lack c cs parts.0, end_lack cs parts.1)
+
+name_lacks : (cs : List ℕ) → is_name cs ≡ true → Lacks 62 cs
+name_lacks [] h = tt
+name_lacks (c ∷ cs) h =
+    let parts = both (starts_name c) _ h in
+    let rest = both _ (is_name_end cs) parts.1 in
+    (starts_lack c parts.0, end_lack cs rest.1)
+
+-- ---- the node that digits name
+
+hex_all : (ds : List ℕ) → AllDigits 16 ds → list_all is_hex ds ≡ true
+hex_all [] h = refl
+hex_all (d ∷ ds) h = joined (is_hex d) (list_all is_hex ds) (let lt : digit_value d < 16 = h.0 in grind (arith, nat_tests)) (hex_all ds h.1)
+
+uid_of-sound : (ds : List ℕ) (uid : ℕ) → uid_of ds ≡ Some uid → IsNode ds uid
+unfolding uid_of
+uid_of-sound ds uid e =
+    let all = passed _ (digits_value 16 ds) uid e in
+    let some = both (nat_lt 0 (length ds)) _ all.0 in
+    let most = both (nat_le (length ds) 15) _ some.1 in
+    let each = both (list_all is_hex ds) _ most.1 in
+    let is : digits_value 16 ds ≡ uid = all.1 in
+    let above : 0 < digits_value 16 ds = let h : nat_lt 0 (digits_value 16 ds) ≡ true = each.1 in grind (arith, nat_tests) in
+    record {
+      each = all_hex ds each.0;
+      some = let h : nat_lt 0 (length ds) ≡ true = some.0 in grind (arith, nat_tests);
+      most = let h : nat_le (length ds) 15 ≡ true = most.0 in grind (arith, nat_tests);
+      value = is;
+      not_zero = subst (λ (n : ℕ). 0 < n) is above;
+    }
+
+uid_of-exact : (ds : List ℕ) (uid : ℕ) → IsNode ds uid → uid_of ds ≡ Some uid
+unfolding uid_of
+uid_of-exact ds uid node =
+    let above : 0 < digits_value 16 ds = subst (λ (n : ℕ). 0 < n) (sym node.value) node.not_zero in
+    let some : nat_lt 0 (length ds) ≡ true = let h : 0 < length ds = node.some in grind (arith, nat_tests) in
+    let most : nat_le (length ds) 15 ≡ true = let h : length ds ≤ 15 = node.most in grind (arith, nat_tests) in
+    let not_zero : nat_lt 0 (digits_value 16 ds) ≡ true = grind (arith, nat_tests) in
+    let test = joined (nat_lt 0 (length ds)) _ some (joined (nat_le (length ds) 15) _ most (joined (list_all is_hex ds) _ (hex_all ds node.each) not_zero)) in
+    ap (λ (b : Bool). cond b (Some (digits_value 16 ds)) None) test ∙ ap (λ (n : ℕ). Some n) node.value
+
+-- ---- what is declared
+
+declared_by-sound : (body name : List ℕ) → declared_by body ≡ Some name → Declares body name
+unfolding declared_by
+declared_by-sound body name e =
+    let at = stepped (λ (n : List ℕ). cond (is_predicate n) (Some n) None) (before_end (codes ": string .") body) name e in
+    let test = passed (is_predicate at.value) at.value name at.then in
+    let is : at.value ≡ name = test.1 in
+    record {
+      predicate = subst (λ (n : List ℕ). is_predicate n ≡ true) is test.0;
+      text = before_end-sound (codes ": string .") body at.value at.first ∙ ap (λ (n : List ℕ). n ++ codes ": string .") is;
+    }
+
+declared_by-exact : (body name : List ℕ) → Declares body name → declared_by body ≡ Some name
+unfolding declared_by
+declared_by-exact body name declares =
+    ap (λ (b : List ℕ). option_and_then (λ (n : List ℕ). cond (is_predicate n) (Some n) None) (before_end (codes ": string .") b)) declares.text
+    ∙ ap (option_and_then (λ (n : List ℕ). cond (is_predicate n) (Some n) None)) (before_end-append (codes ": string .") name)
+    ∙ ap (λ (b : Bool). cond b (Some name) None) declares.predicate
+
+pub declared_found : {A : Type 0} (f : A → List ℕ) (body : List ℕ) (o : Option A) → option_map f o ≡ declared_by body → IfSome o (λ x. Declares body (f x))
+declared_found f body None e = tt
+declared_found f body (Some x) e = declared_by-sound body (f x) (sym e)
+
+pub declared_none : {A : Type 0} (f : A → List ℕ) (body : List ℕ) (o : Option A) → option_map f o ≡ declared_by body → IfNone o ((name : List ℕ) → ¬ Declares body name)
+declared_none f body None e = λ name declares. no_some name (e ∙ declared_by-exact body name declares)
+declared_none f body (Some x) e = tt
+
+-- ---- what is set
+
+abbrev set_node : List ℕ → List ℕ → List ℕ → Option (ℕ × List ℕ × List ℕ)
+set_node digits name value = option_and_then (λ uid. plain_triple uid name value) (uid_of digits)
+
+abbrev set_value : List ℕ → List ℕ → List ℕ → Option (ℕ × List ℕ × List ℕ)
+set_value digits name c = option_and_then (set_node digits name) (before_end (codes "\" .") c)
+
+abbrev set_quote : List ℕ → List ℕ × List ℕ → Option (ℕ × List ℕ × List ℕ)
+set_quote digits name = option_and_then (set_value digits name.0) (after_front (codes " \"") name.1)
+
+abbrev set_name : List ℕ → List ℕ → Option (ℕ × List ℕ × List ℕ)
+set_name digits b = option_and_then (set_quote digits) (cut_at 62 b)
+
+abbrev set_open : List ℕ × List ℕ → Option (ℕ × List ℕ × List ℕ)
+set_open digits = option_and_then (set_name digits.0) (after_front (codes " <") digits.1)
+
+abbrev set_digits : List ℕ → Option (ℕ × List ℕ × List ℕ)
+set_digits a = option_and_then set_open (cut_at 62 a)
+
+set_parts : (body : List ℕ) → set_by body ≡ option_and_then set_digits (after_front (codes "<0x") body)
+unfolding set_by
+set_parts body = refl
+
+pairs : (p q : ℕ × List ℕ × List ℕ) → p ≡ q → (p.0 ≡ q.0) × (p.1 ≡ q.1) × (p.2 ≡ q.2)
+pairs p q e = (ap (λ (r : ℕ × List ℕ × List ℕ). r.0) e, ap (λ (r : ℕ × List ℕ × List ℕ). r.1) e, ap (λ (r : ℕ × List ℕ × List ℕ). r.2) e)
+
+set_by-sound : (body : List ℕ) (uid : ℕ) (name value : List ℕ) → set_by body ≡ Some (uid, name, value) → Sets body uid name value
+set_by-sound body uid name value e =
+    let a = stepped set_digits (after_front (codes "<0x") body) (uid, name, value) (sym (set_parts body) ∙ e) in
+    let d = stepped set_open (cut_at 62 a.value) (uid, name, value) a.then in
+    let b = stepped (set_name d.value.0) (after_front (codes " <") d.value.1) (uid, name, value) d.then in
+    let n = stepped (set_quote d.value.0) (cut_at 62 b.value) (uid, name, value) b.then in
+    let c = stepped (set_value d.value.0 n.value.0) (after_front (codes " \"") n.value.1) (uid, name, value) n.then in
+    let v = stepped (set_node d.value.0 n.value.0) (before_end (codes "\" .") c.value) (uid, name, value) c.then in
+    let u = stepped (λ (k : ℕ). plain_triple k n.value.0 v.value) (uid_of d.value.0) (uid, name, value) v.then in
+    let test = passed (is_name n.value.0 && list_all is_plain v.value) (u.value, n.value.0, v.value) (uid, name, value) u.then in
+    let plain = both (is_name n.value.0) (list_all is_plain v.value) test.0 in
+    let is = pairs (u.value, n.value.0, v.value) (uid, name, value) test.1 in
+    let name_is : n.value.0 ≡ name = is.1 in
+    let value_is : v.value ≡ value = is.2 in
+    let rest : c.value ≡ value ++ codes "\" ." = before_end-sound (codes "\" .") c.value v.value v.first ∙ ap (λ (l : List ℕ). l ++ codes "\" .") value_is in
+    let quoted : b.value ≡ name ++ (codes "> \"" ++ (value ++ codes "\" .")) =
+    cut_at-sound 62 b.value n.value.0 n.value.1 n.first ∙ ap (λ (l : List ℕ). n.value.0 ++ (62 ∷ l)) (after_front-sound (codes " \"") n.value.1 c.value c.first)
+    ∙ ap (λ (l : List ℕ). n.value.0 ++ (codes "> \"" ++ l)) rest ∙ ap (λ (l : List ℕ). l ++ (codes "> \"" ++ (value ++ codes "\" ."))) name_is in
+    let opened : a.value ≡ d.value.0 ++ (codes "> <" ++ (name ++ (codes "> \"" ++ (value ++ codes "\" .")))) =
+    cut_at-sound 62 a.value d.value.0 d.value.1 d.first ∙ ap (λ (l : List ℕ). d.value.0 ++ (62 ∷ l)) (after_front-sound (codes " <") d.value.1 b.value b.first)
+    ∙ ap (λ (l : List ℕ). d.value.0 ++ (codes "> <" ++ l)) quoted in
+    record {
+      digits = d.value.0;
+      node = subst (IsNode d.value.0) is.0 (uid_of-sound d.value.0 u.value u.first);
+      predicate = subst (λ (l : List ℕ). is_name l ≡ true) name_is plain.0;
+      plain = subst (λ (l : List ℕ). list_all is_plain l ≡ true) value_is plain.1;
+      text = after_front-sound (codes "<0x") body a.value a.first ∙ ap (λ (l : List ℕ). codes "<0x" ++ l) opened;
+    }
+
+set_by-exact : (body : List ℕ) (uid : ℕ) (name value : List ℕ) → Sets body uid name value → set_by body ≡ Some (uid, name, value)
+set_by-exact body uid name value sets =
+    let digits = sets.digits in
+    let rest = value ++ codes "\" ." in
+    let quoted = name ++ (codes "> \"" ++ rest) in
+    let opened = digits ++ (codes "> <" ++ quoted) in
+    set_parts body
+    ∙ ap (λ (b : List ℕ). option_and_then set_digits (after_front (codes "<0x") b)) sets.text
+    ∙ ap (option_and_then set_digits) (after_front-append (codes "<0x") opened)
+    ∙ ap (option_and_then set_open) (cut_at-first 62 digits (codes " <" ++ quoted) (digits_lack 62 digits (λ h. omega (arith, h)) sets.node.each))
+    ∙ ap (option_and_then (set_name digits)) (after_front-append (codes " <") quoted)
+    ∙ ap (option_and_then (set_quote digits)) (cut_at-first 62 name (codes " \"" ++ rest) (name_lacks name sets.predicate))
+    ∙ ap (option_and_then (set_value digits name)) (after_front-append (codes " \"") rest)
+    ∙ ap (option_and_then (set_node digits name)) (before_end-append (codes "\" .") value)
+    ∙ ap (option_and_then (λ (k : ℕ). plain_triple k name value)) (uid_of-exact digits uid sets.node)
+    ∙ ap (λ (b : Bool). cond b (Some (uid, name, value)) None) (joined (is_name name) (list_all is_plain value) sets.predicate sets.plain)
+
+pub set_found : {A : Type 0} (uid : A → ℕ) (name value : A → List ℕ) (body : List ℕ) (o : Option A) → option_map (λ x. (uid x, name x, value x)) o ≡ set_by body → IfSome o (λ x. Sets body (uid x) (name x) (value x))
+set_found uid name value body None e = tt
+set_found uid name value body (Some x) e = set_by-sound body (uid x) (name x) (value x) (sym e)
+
+pub set_none : {A : Type 0} (uid : A → ℕ) (name value : A → List ℕ) (body : List ℕ) (o : Option A) → option_map (λ x. (uid x, name x, value x)) o ≡ set_by body → IfNone o ((u : ℕ) (n v : List ℕ) → ¬ Sets body u n v)
+set_none uid name value body None e = λ u n v sets. no_some (u, n, v) (e ∙ set_by-exact body u n v sets)
+set_none uid name value body (Some x) e = tt
+
+-- ---- what is asked for
+
+abbrev asked_node : List ℕ → List ℕ → Option (ℕ × List ℕ)
+asked_node digits name = option_and_then (λ uid. cond (is_predicate name) (Some (uid, name)) None) (uid_of digits)
+
+abbrev asked_name : List ℕ → List ℕ → Option (ℕ × List ℕ)
+asked_name digits b = option_and_then (asked_node digits) (before_end (codes " } }") b)
+
+abbrev asked_close : List ℕ × List ℕ → Option (ℕ × List ℕ)
+asked_close digits = option_and_then (asked_name digits.0) (after_front (codes ") { ") digits.1)
+
+abbrev asked_digits : List ℕ → Option (ℕ × List ℕ)
+asked_digits a = option_and_then asked_close (cut_at 41 a)
+
+asked_parts : (body : List ℕ) → asked_by body ≡ option_and_then asked_digits (after_front (codes "{ q(func: uid(0x") body)
+unfolding asked_by
+asked_parts body = refl
+
+asked_by-sound : (body : List ℕ) (uid : ℕ) (name : List ℕ) → asked_by body ≡ Some (uid, name) → Asks body uid name
+asked_by-sound body uid name e =
+    let a = stepped asked_digits (after_front (codes "{ q(func: uid(0x") body) (uid, name) (sym (asked_parts body) ∙ e) in
+    let d = stepped asked_close (cut_at 41 a.value) (uid, name) a.then in
+    let b = stepped (asked_name d.value.0) (after_front (codes ") { ") d.value.1) (uid, name) d.then in
+    let n = stepped (asked_node d.value.0) (before_end (codes " } }") b.value) (uid, name) b.then in
+    let u = stepped (λ (k : ℕ). cond (is_predicate n.value) (Some (k, n.value)) None) (uid_of d.value.0) (uid, name) n.then in
+    let test = passed (is_predicate n.value) (u.value, n.value) (uid, name) u.then in
+    let uid_is : u.value ≡ uid = ap (λ (r : ℕ × List ℕ). r.0) test.1 in
+    let name_is : n.value ≡ name = ap (λ (r : ℕ × List ℕ). r.1) test.1 in
+    let rest : b.value ≡ name ++ codes " } }" = before_end-sound (codes " } }") b.value n.value n.first ∙ ap (λ (l : List ℕ). l ++ codes " } }") name_is in
+    let closed : a.value ≡ d.value.0 ++ (codes ")) { " ++ (name ++ codes " } }")) =
+    cut_at-sound 41 a.value d.value.0 d.value.1 d.first ∙ ap (λ (l : List ℕ). d.value.0 ++ (41 ∷ l)) (after_front-sound (codes ") { ") d.value.1 b.value b.first)
+    ∙ ap (λ (l : List ℕ). d.value.0 ++ (codes ")) { " ++ l)) rest in
+    record {
+      digits = d.value.0;
+      node = subst (IsNode d.value.0) uid_is (uid_of-sound d.value.0 u.value u.first);
+      predicate = subst (λ (l : List ℕ). is_predicate l ≡ true) name_is test.0;
+      text = after_front-sound (codes "{ q(func: uid(0x") body a.value a.first ∙ ap (λ (l : List ℕ). codes "{ q(func: uid(0x" ++ l) closed;
+    }
+
+asked_by-exact : (body : List ℕ) (uid : ℕ) (name : List ℕ) → Asks body uid name → asked_by body ≡ Some (uid, name)
+asked_by-exact body uid name asks =
+    let digits = asks.digits in
+    let rest = name ++ codes " } }" in
+    asked_parts body
+    ∙ ap (λ (b : List ℕ). option_and_then asked_digits (after_front (codes "{ q(func: uid(0x") b)) asks.text
+    ∙ ap (option_and_then asked_digits) (after_front-append (codes "{ q(func: uid(0x") (digits ++ (codes ")) { " ++ rest)))
+    ∙ ap (option_and_then asked_close) (cut_at-first 41 digits (codes ") { " ++ rest) (digits_lack 41 digits (λ h. omega (arith, h)) asks.node.each))
+    ∙ ap (option_and_then (asked_name digits)) (after_front-append (codes ") { ") rest)
+    ∙ ap (option_and_then (asked_node digits)) (before_end-append (codes " } }") name)
+    ∙ ap (option_and_then (λ (k : ℕ). cond (is_predicate name) (Some (k, name)) None)) (uid_of-exact digits uid asks.node)
+    ∙ ap (λ (b : Bool). cond b (Some (uid, name)) None) asks.predicate
+
+pub asked_found : {A : Type 0} (uid : A → ℕ) (name : A → List ℕ) (body : List ℕ) (o : Option A) → option_map (λ x. (uid x, name x)) o ≡ asked_by body → IfSome o (λ x. Asks body (uid x) (name x))
+asked_found uid name body None e = tt
+asked_found uid name body (Some x) e = asked_by-sound body (uid x) (name x) (sym e)
+
+pub asked_none : {A : Type 0} (uid : A → ℕ) (name : A → List ℕ) (body : List ℕ) (o : Option A) → option_map (λ x. (uid x, name x)) o ≡ asked_by body → IfNone o ((u : ℕ) (n : List ℕ) → ¬ Asks body u n)
+asked_none uid name body None e = λ u n asks. no_some (u, n) (e ∙ asked_by-exact body u n asks)
+asked_none uid name body (Some x) e = tt
+
+-- ---- each body says one thing
+
+one_text : (x y : List ℕ) → Some x ≡ Some y → x ≡ y
+one_text x y e = cc
+
+pub declares_one : (body a b : List ℕ) → Declares body a → Declares body b → a ≡ b
+declares_one body a b x y = one_text a b (sym (declared_by-exact body a x) ∙ declared_by-exact body b y)
+
+one_set : (x y : ℕ × List ℕ × List ℕ) → Some x ≡ Some y → x ≡ y
+one_set x y e = cc
+
+pub sets_one : (body : List ℕ) (u v : ℕ) (m n x y : List ℕ) → Sets body u m x → Sets body v n y → (u ≡ v) × (m ≡ n) × (x ≡ y)
+sets_one body u v m n x y a b = pairs (u, m, x) (v, n, y) (one_set (u, m, x) (v, n, y) (sym (set_by-exact body u m x a) ∙ set_by-exact body v n y b))
+
+one_ask : (x y : ℕ × List ℕ) → Some x ≡ Some y → x ≡ y
+one_ask x y e = cc
+
+pub asks_one : (body : List ℕ) (u v : ℕ) (m n : List ℕ) → Asks body u m → Asks body v n → (u ≡ v) × (m ≡ n)
+asks_one body u v m n a b =
+    let e = one_ask (u, m) (v, n) (sym (asked_by-exact body u m a) ∙ asked_by-exact body v n b) in
+    (ap (λ (r : ℕ × List ℕ). r.0) e, ap (λ (r : ℕ × List ℕ). r.1) e)

@@ -1,0 +1,57 @@
+-- The steps of the machine, and its runs.
+use Rattle.std.specs.Prelude.{◌≡◌, ◌≢◌, ℕ, ◌+◌, ◌⊎◌, List, [], ◌∷◌}
+use Rattle.std.specs.List.{AllByRecursion}
+use Rattle.dg_wire.specs.declared.refusal.Refusal.TheVariants as refusals
+use Rattle.dg_wire.specs.declared.reply.Reply.{Reply}
+use Rattle.dg_wire.specs.declared.reply.Reply.TheVariants as replies
+use Rattle.dg_wire.specs.declared.request.Request.{Request}
+use Rattle.dg_wire.specs.declared.request.Request.TheVariants as requests
+use Rattle.dg_node.specs.Machine.{Machine, empty, drawn}
+use Rattle.dg_node.specs.Replying.{IsUnbuilt}
+use Rattle.dg_node.specs.Alters.{Alters}
+use Rattle.dg_node.specs.Transactions.{Begins, Commits}
+use Rattle.dg_node.specs.Mutations.{Mutates}
+use Rattle.dg_node.specs.Queries.{Queries}
+
+-- what a request is answered and leaves, where there is memory
+abbrev pub Outcome : Machine → Request → Reply → Machine → Type 0
+Outcome old (requests.Alter body) reply new = Alters old body reply new
+Outcome old (requests.Begin sid) reply new = Begins old sid reply new
+Outcome old (requests.Mutate sid body) reply new = Mutates old sid body reply new
+Outcome old (requests.Query sid body) reply new = Queries old sid body reply new
+Outcome old (requests.Commit sid) reply new = Commits old sid reply new
+Outcome old request reply new = IsUnbuilt old reply new
+
+-- what a request leaves where memory is wanting: a begin may have drawn one timestamp, which isn't given back
+abbrev pub Spares : Request → Machine → Machine → Type 0
+Spares (requests.Begin sid) old new = (new ≡ old) ⊎ (new ≡ drawn old (old.next + 1))
+Spares request old new = new ≡ old
+
+-- memory is wanting
+pub record WantsMemory (old : Machine) (request : Request) (reply : Reply) (new : Machine) : Type 0 where
+  pub free : reply ≡ replies.Refused refusals.Memory
+  pub spared : Spares request old new
+
+-- From old, the machine may give this reply to the request and go on to new.
+abbrev pub Step : Machine → Request → Reply → Machine → Type 0
+Step old request reply new = Outcome old request reply new ⊎ WantsMemory old request reply new
+
+-- the machine may give these replies to these requests, one step after another
+abbrev pub Steps : Machine → List Request → List Reply → Machine → Type 0
+Steps old [] [] new = new ≡ old
+Steps old (request ∷ requests) (reply ∷ replies) new = (mid : Machine) × Step old request reply mid × Steps mid requests replies new
+Steps old [] (reply ∷ replies) new = ⊥
+Steps old (request ∷ requests) [] new = ⊥
+
+-- a run: from the empty machine of so many groups
+abbrev pub Run : ℕ → List Request → List Reply → Machine → Type 0
+Run groups requests replies after = Steps (empty groups) requests replies after
+
+-- no reply says that memory was wanting
+abbrev pub HadMemory : List Reply → Type 0
+HadMemory given = AllByRecursion (λ reply. reply ≢ replies.Refused refusals.Memory) given
+
+-- where none does, the replies and the state behind them are a function of the requests
+abbrev pub IsDetermined : Type 0
+IsDetermined = (groups : ℕ) (requests : List Request) (some others : List Reply) (one other : Machine)
+    → Run groups requests some one → Run groups requests others other → HadMemory some → HadMemory others → (some ≡ others) × (one ≡ other)
