@@ -5,15 +5,14 @@ mod kind;
 mod list;
 mod memory;
 mod moment;
+#[cfg(test)]
+mod tests;
 mod text;
 mod value;
 
 pub use kind::{DatePart, Kind, Tokenizer};
 pub use list::List;
-pub use memory::OutOfMemory;
+pub use memory::{Mem, OutOfMemory};
 pub use moment::Moment;
 pub use text::Str;
 pub use value::{Posting, Value};
-
-/// What only want of memory refuses.
-pub type Mem<T> = Result<T, OutOfMemory>;
