@@ -1,8 +1,14 @@
-use Rattle.dg_wire.proofs.NumberCuts.{number_front}
+use Rattle.std.proofs.Common.{◌≡◌, ℕ, length, ap, inl, inr, arith}
+use Rattle.std.proofs.lemmas.Bool.Decides.{nat_tests}
+use Rattle.dg_wire.proofs.NumberCuts.{number_argument, empty_argument, whole_argument}
 use Rattle.dg_wire.proofs.argument.Argument.begins.Goals as goal
 
 pub returns-then-is_empty : goal.returns-then-is_empty
-returns-then-is_empty c = ?
+returns-then-is_empty c =
+    let none : length c.args.word.now ≡ 0 = grind (arith, nat_tests, c.if-is_empty.ensures) in
+    (λ _. empty_argument c.args.self c.args.word.now none, λ _. c.if-is_empty.true)
 
 pub returns-else-is_empty : goal.returns-else-is_empty
-returns-else-is_empty c = ?
+returns-else-is_empty c =
+    (λ h. whole_argument c.args.self c.args.word.now (c.is.ensures.0 h),
+        λ begins. elim (number_argument c.args.self c.args.word.now c.in_default.not-Name begins) [ inl e ↦ absurd (let none : length c.args.word.now ≡ 0 = ap length e in grind (arith, nat_tests, c.if-is_empty.ensures)) | inr h ↦ c.is.ensures.1 h ])
