@@ -34,11 +34,12 @@ fn begin_words(words: &[&[u8]]) -> bool
 fn begin_arguments(arguments: &[Argument], words: &[&[u8]]) -> bool
     ensures { IsTrue result ↔ BeginsArguments arguments.now (map (λ w. w.now) words.now) }
 {
-    match (arguments, words) {
-        ([argument, ..], [front]) => argument.begins(front),
-        ([argument, others @ ..], [word, rest @ ..]) => {
-            argument.is(word) && begin_arguments(others, rest)
-        }
-        _ => false,
+    match arguments {
+        [] => false,
+        [argument, others @ ..] => match words {
+            [] => false,
+            [front] => argument.begins(front),
+            [word, rest @ ..] => argument.is(word) && begin_arguments(others, rest),
+        },
     }
 }
