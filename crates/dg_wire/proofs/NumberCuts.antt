@@ -5,8 +5,8 @@ use Rattle.std.proofs.lemmas.List.{append-nil}
 use Rattle.std.proofs.Math.Seq.{take-append_seam}
 use Rattle.std.proofs.lemmas.Str.Parse.{digits_value-take-le}
 use Rattle.std.proofs.lemmas.Fmt.{first_decimal, decimal_digit}
-use Rattle.dg_wire.specs.declared.argument.Argument.{Argument}
-use Rattle.dg_wire.specs.declared.argument.Argument.TheVariants as kinds
+use Rattle.dg_wire.specs.declared.arguments.Argument.{Argument}
+use Rattle.dg_wire.specs.declared.arguments.Argument.TheVariants as kinds
 use Rattle.dg_wire.specs.Numbers.{IsNumberOf, IsPlain}
 use Rattle.dg_wire.specs.Frames.{IsName}
 use Rattle.dg_wire.specs.Cuts.{Begins, IsArgument}

@@ -5,8 +5,8 @@ use Rattle.std.specs.Str.{bytes_eq}
 use Rattle.std.specs.List.{join_with_byte, slice_split, onto_first, position_or_len}
 use Rattle.std.proofs.Math.ListN.{length-replicate}
 use Rattle.std.proofs.lemmas.List.Splits.{join_with_byte-slice_split}
-use Rattle.dg_wire.specs.declared.argument.Argument.{Argument}
-use Rattle.dg_wire.specs.declared.argument.Argument.TheVariants as kinds
+use Rattle.dg_wire.specs.declared.arguments.Argument.{Argument}
+use Rattle.dg_wire.specs.declared.arguments.Argument.TheVariants as kinds
 use Rattle.dg_wire.specs.declared.verb.TheConstants.Verb.{ALL}
 use Rattle.dg_wire.specs.declared.verb.Verb.{Verb}
 use Rattle.dg_wire.specs.declared.verb.Verb.TheVariants as verbs

@@ -1,7 +1,7 @@
 use Rattle.std.proofs.Common.{◌≡◌, ◌≢◌, ℕ, suc, ◌+◌, ◌-◌, ◌<◌, ◌≤◌, Bool, true, false, List, [], ◌∷◌, ◌++◌, length, take, drop, get_or, map, refl, ap, sym, subst, ◌∙◌, arith, Bor}
 use Rattle.std.specs.Prelude.{IsTrue}
 use Rattle.std.proofs.lemmas.List.{take_all}
-use Rattle.dg_wire.specs.declared.argument.Argument.{Argument}
+use Rattle.dg_wire.specs.declared.arguments.Argument.{Argument}
 use Rattle.dg_wire.specs.Cuts.{IsFront, Begins, IsArgument, AreArguments, AreFirst, BeginsArguments}
 use Rattle.dg_wire.proofs.NumberCuts.{some_argument}
 

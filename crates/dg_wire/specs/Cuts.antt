@@ -2,8 +2,8 @@
 use Rattle.std.specs.Prelude.{◌≡◌, ℕ, ◌≤◌, List, [], ◌∷◌, ◌++◌}
 use Rattle.std.specs.Fmt.{decimal}
 use Rattle.dg_wire.specs.declared.request.Request.{Request}
-use Rattle.dg_wire.specs.declared.argument.Argument.{Argument}
-use Rattle.dg_wire.specs.declared.argument.Argument.TheVariants as kinds
+use Rattle.dg_wire.specs.declared.arguments.Argument.{Argument}
+use Rattle.dg_wire.specs.declared.arguments.Argument.TheVariants as kinds
 use Rattle.dg_wire.specs.declared.verb.Verb.{Verb}
 use Rattle.dg_wire.specs.declared.verb.Verb.TheVariants as verbs
 use Rattle.dg_wire.specs.Verbs.{name_of}

@@ -5,7 +5,7 @@ use Rattle.std.proofs.lemmas.Iterator.Search.{any_from_yields_List}
 use Rattle.dg_wire.specs.declared.verb.TheConstants.Verb.{ALL}
 use Rattle.dg_wire.specs.Verbs.{name_of}
 use Rattle.dg_wire.proofs.VerbCuts.{names_begin}
-use Rattle.dg_wire.proofs.verb.Verb.begins.Goals as goal
+use Rattle.dg_wire.proofs.verb.Verb.any_begins_with.Goals as goal
 
 pub returns : goal.returns
 returns c =
