@@ -1,4 +1,4 @@
-use Rattle.std.proofs.Common.{◌≡◌, ◌≢◌, ℕ, ◌+◌, ◌-◌, ◌<◌, ◌≤◌, ◌⊎◌, inl, inr, true, eqb, List, [], ◌∷◌, ◌++◌, length, take, Option, Some, None, refl, ap, sym, subst, ◌∙◌, append_assoc, length-append, arith}
+use Rattle.std.proofs.Common.{◌≡◌, ℕ, ◌-◌, ◌<◌, ◌≤◌, true, eqb, List, [], ◌∷◌, ◌++◌, length, Option, Some, None, refl, ap, sym, ◌∙◌, append_assoc, length-append, arith}
 use Rattle.std.specs.Prelude.{replicate}
 use Rattle.std.specs.List.{slice_split}
 use Rattle.std.proofs.Math.ListN.{length-replicate}
@@ -8,9 +8,9 @@ use Rattle.dg_wire.specs.declared.request.Request.{Request}
 use Rattle.dg_wire.specs.declared.head.Opened.{Opened}
 use Rattle.dg_wire.specs.declared.head.Head.TheVariants.{Open}
 use Rattle.dg_wire.specs.Replies.{ended}
-use Rattle.dg_wire.specs.Frames.{line, frame, request_body, IsRequest}
+use Rattle.dg_wire.specs.Frames.{line, frame, request_body}
 use Rattle.dg_wire.specs.Heads.{Heads, with_body}
-use Rattle.dg_wire.specs.Exact.{has_no_feed, NoFrame, NoWhole, IsCutFrame}
+use Rattle.dg_wire.specs.Exact.{NoFrame, NoWhole, IsCutFrame}
 use Rattle.dg_wire.specs.Cuts.{IsFront, BeginsLine}
 use Rattle.dg_wire.proofs.LineLemmas.{no_feed}
 use Rattle.dg_wire.proofs.FrameLemmas.{frame_is}
@@ -76,5 +76,5 @@ cut_body bytes front behind opened len is heads short =
       more = fill ++ (10 ∷ []);
       some = omega (arith, length-append fill (10 ∷ []));
       whole =
-        ap (λ (l : List ℕ). l ++ (fill ++ (10 ∷ []))) is ∙ append_assoc front (10 ∷ behind) (fill ++ (10 ∷ [])) ∙ ap (λ (l : List ℕ). front ++ (10 ∷ l)) (sym (append_assoc behind fill (10 ∷ []))) ∙ sym (frame_is front (with_body opened (behind ++ fill)) (Some (behind ++ fill)) with.2 with.1);
+          ap (λ (l : List ℕ). l ++ (fill ++ (10 ∷ []))) is ∙ append_assoc front (10 ∷ behind) (fill ++ (10 ∷ [])) ∙ ap (λ (l : List ℕ). front ++ (10 ∷ l)) (sym (append_assoc behind fill (10 ∷ []))) ∙ sym (frame_is front (with_body opened (behind ++ fill)) (Some (behind ++ fill)) with.2 with.1);
     }

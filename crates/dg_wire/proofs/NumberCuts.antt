@@ -1,4 +1,4 @@
-use Rattle.std.proofs.Common.{◌≡◌, ◌≢◌, ℕ, zero, suc, ◌+◌, ◌<◌, ◌≤◌, ◌^◌, ◌⊎◌, inl, inr, List, [], ◌∷◌, ◌++◌, length, take, get_or, refl, ap, sym, subst, ◌∙◌, length-append, arith}
+use Rattle.std.proofs.Common.{◌≡◌, ◌≢◌, ℕ, zero, suc, ◌<◌, ◌≤◌, ◌^◌, ◌⊎◌, inl, inr, List, [], ◌∷◌, ◌++◌, length, get_or, refl, ap, sym, subst, length-append, arith}
 use Rattle.std.specs.Fmt.{decimal}
 use Rattle.std.specs.Str.Parse.{AllDigits, digits_value}
 use Rattle.std.proofs.lemmas.List.{append-nil}
@@ -7,8 +7,7 @@ use Rattle.std.proofs.lemmas.Str.Parse.{digits_value-take-le}
 use Rattle.std.proofs.lemmas.Fmt.{first_decimal, decimal_digit}
 use Rattle.dg_wire.specs.declared.arguments.Argument.{Argument}
 use Rattle.dg_wire.specs.declared.arguments.Argument.TheVariants as kinds
-use Rattle.dg_wire.specs.Numbers.{IsNumberOf, IsPlain}
-use Rattle.dg_wire.specs.Frames.{IsName}
+use Rattle.dg_wire.specs.Numbers.{IsPlain}
 use Rattle.dg_wire.specs.Cuts.{Begins, IsArgument}
 use Rattle.dg_wire.proofs.NumberLemmas.{decimal_number, decimal_plain, plain_decimal}
 

@@ -1,11 +1,10 @@
-use Rattle.std.proofs.Common.{◌≡◌, ◌≢◌, ℕ, ◌+◌, ◌-◌, ◌<◌, ◌≤◌, Bool, true, false, cond, eqb, List, [], ◌∷◌, ◌++◌, length, take, drop, get_or, map, refl, ap, sym, subst, ◌∙◌, append_assoc, arith}
+use Rattle.std.proofs.Common.{◌≡◌, ℕ, ◌<◌, ◌≤◌, Bool, true, false, cond, eqb, List, [], ◌∷◌, ◌++◌, length, get_or, refl, ap, sym, subst, ◌∙◌, append_assoc, arith}
 use Rattle.std.specs.Prelude.{IsTrue, replicate}
 use Rattle.std.specs.Fmt.{decimal}
 use Rattle.std.specs.Str.{bytes_eq}
 use Rattle.std.specs.List.{join_with_byte, slice_split, onto_first, position_or_len}
 use Rattle.std.proofs.Math.ListN.{length-replicate}
 use Rattle.std.proofs.lemmas.List.Splits.{join_with_byte-slice_split}
-use Rattle.dg_wire.specs.declared.arguments.Argument.{Argument}
 use Rattle.dg_wire.specs.declared.arguments.Argument.TheVariants as kinds
 use Rattle.dg_wire.specs.declared.verb.TheConstants.Verb.{ALL}
 use Rattle.dg_wire.specs.declared.verb.Verb.{Verb}
@@ -13,7 +12,7 @@ use Rattle.dg_wire.specs.declared.verb.Verb.TheVariants as verbs
 use Rattle.dg_wire.specs.declared.request.Request.{Request}
 use Rattle.dg_wire.specs.declared.request.Request.TheVariants.{Alter, Begin, Mutate, Upsert, Query, Commit, Discard, Line, Roll, RollPlan, RollInstall, MoveStart, MoveCopy, MoveHold, MoveFlip, MoveOff, State}
 use Rattle.dg_wire.specs.Verbs.{name_of}
-use Rattle.dg_wire.specs.Frames.{IsSession, IsGroup, IsName, IsBody, IsRequest, verb_of, arguments, words, line}
+use Rattle.dg_wire.specs.Frames.{IsSession, IsGroup, IsName, IsBody, IsRequest, verb_of, arguments, words}
 use Rattle.dg_wire.specs.Cuts.{IsFront, BeginsVerb, takes, AreArguments, AreFirst, BeginsArguments, BeginsWords, BeginsLine}
 use Rattle.dg_wire.proofs.LineLemmas.{words_ink, split_join}
 use Rattle.dg_wire.proofs.WordCuts.{some_arguments}

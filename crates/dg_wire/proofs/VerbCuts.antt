@@ -1,4 +1,4 @@
-use Rattle.std.proofs.Common.{◌≡◌, ◌<◌, ℕ, ◌⊎◌, inl, inr, Bool, true, false, ◌||◌, eqb, List, [], ◌∷◌, ◌++◌, drop, length, refl, sym, ◌∙◌, lit<}
+use Rattle.std.proofs.Common.{◌≡◌, ℕ, ◌⊎◌, inl, inr, Bool, true, false, ◌||◌, eqb, List, [], ◌∷◌, drop, length, refl, sym, ◌∙◌, lit<}
 use Rattle.std.specs.Prelude.{IsTrue}
 use Rattle.std.specs.List.{list_any, starts_with}
 use Rattle.std.proofs.lemmas.Bool.{false≢true}
@@ -42,7 +42,8 @@ passing p (v ∷ vs) h = elim (either (p v) (list_any p vs) h) [ inl e ↦ (v, e
 
 -- the test by names says whether some name begins so
 pub names_begin : (word : List ℕ) (r : Bool) → r ≡ list_any (λ verb. starts_with eqb (name_of verb) word) ALL → (IsTrue r → BeginsVerb word) × (BeginsVerb word → IsTrue r)
-names_begin word r is =
-    (λ h. let found = passing (λ verb. starts_with eqb (name_of verb) word) ALL (sym is ∙ h) in
-        (found.0, (drop (length word) (name_of found.0), sym ((starts_is Decides-eqb (name_of found.0) word (starts_with eqb (name_of found.0) word) refl).0 found.1))),
-        λ (verb, (rest, e)). is ∙ passed (λ v. starts_with eqb (name_of v) word) verb ((starts_is Decides-eqb (name_of verb) word (starts_with eqb (name_of verb) word) refl).1 rest (sym e)))
+names_begin word r is = (
+  λ h. let found = passing (λ verb. starts_with eqb (name_of verb) word) ALL (sym is ∙ h) in
+      (found.0, (drop (length word) (name_of found.0), sym ((starts_is Decides-eqb (name_of found.0) word (starts_with eqb (name_of found.0) word) refl).0 found.1))),
+  λ (verb, (rest, e)). is ∙ passed (λ v. starts_with eqb (name_of v) word) verb ((starts_is Decides-eqb (name_of verb) word (starts_with eqb (name_of verb) word) refl).1 rest (sym e)),
+)

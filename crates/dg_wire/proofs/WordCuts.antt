@@ -1,8 +1,8 @@
-use Rattle.std.proofs.Common.{◌≡◌, ◌≢◌, ℕ, suc, ◌+◌, ◌-◌, ◌<◌, ◌≤◌, Bool, true, false, List, [], ◌∷◌, ◌++◌, length, take, drop, get_or, map, refl, ap, sym, subst, ◌∙◌, arith, Bor}
+use Rattle.std.proofs.Common.{◌≡◌, ℕ, ◌-◌, ◌<◌, ◌≤◌, Bool, List, [], ◌∷◌, ◌++◌, length, take, drop, get_or, map, refl, ap, sym, subst, arith}
 use Rattle.std.specs.Prelude.{IsTrue}
 use Rattle.std.proofs.lemmas.List.{take_all}
 use Rattle.dg_wire.specs.declared.arguments.Argument.{Argument}
-use Rattle.dg_wire.specs.Cuts.{IsFront, Begins, IsArgument, AreArguments, AreFirst, BeginsArguments}
+use Rattle.dg_wire.specs.Cuts.{Begins, IsArgument, AreArguments, BeginsArguments}
 use Rattle.dg_wire.proofs.NumberCuts.{some_argument}
 
 -- a slice, by its first element and the others
@@ -40,9 +40,10 @@ is_front kind kinds front ([], args, first) = absurd args
 is_front kind kinds front (w ∷ ws, args, (rest, is)) = (rest, subst (IsArgument kind) (sym is) args.0)
 
 pub by_front : (b : Bool) (kind : Argument) (kinds all : List Argument) (front : List ℕ) (fronts : List (List ℕ)) → all ≡ kind ∷ kinds → fronts ≡ front ∷ [] → (IsTrue b → Begins (IsArgument kind) front) × (Begins (IsArgument kind) front → IsTrue b) → (IsTrue b → BeginsArguments all fronts) × (BeginsArguments all fronts → IsTrue b)
-by_front b kind kinds all front fronts e f h =
-    (λ yes. subst (λ (ks : List Argument). BeginsArguments ks fronts) (sym e) (subst (BeginsArguments (kind ∷ kinds)) (sym f) (one_front kind kinds front (h.0 yes))),
-        λ begins. h.1 (is_front kind kinds front (subst (BeginsArguments (kind ∷ kinds)) f (subst (λ (ks : List Argument). BeginsArguments ks fronts) e begins))))
+by_front b kind kinds all front fronts e f h = (
+  λ yes. subst (λ (ks : List Argument). BeginsArguments ks fronts) (sym e) (subst (BeginsArguments (kind ∷ kinds)) (sym f) (one_front kind kinds front (h.0 yes))),
+  λ begins. h.1 (is_front kind kinds front (subst (BeginsArguments (kind ∷ kinds)) f (subst (λ (ks : List Argument). BeginsArguments ks fronts) e begins))),
+)
 
 -- more words are an argument and the first of the others
 next_fronts : (kind : Argument) (kinds : List Argument) (word : List ℕ) (fronts : List (List ℕ)) → 0 < length fronts → IsArgument kind word → BeginsArguments kinds fronts → BeginsArguments (kind ∷ kinds) (word ∷ fronts)
@@ -55,9 +56,10 @@ are_next kind kinds word (f ∷ fs) some ([], args, first) = absurd args
 are_next kind kinds word (f ∷ fs) some (w ∷ ws, args, (is, first)) = (subst (IsArgument kind) (sym is) args.0, (ws, args.1, first))
 
 pub by_next : (b : Bool) (kind : Argument) (kinds all : List Argument) (word : List ℕ) (next fronts : List (List ℕ)) → all ≡ kind ∷ kinds → fronts ≡ word ∷ next → 0 < length next → IsArgument kind word → (IsTrue b → BeginsArguments kinds next) × (BeginsArguments kinds next → IsTrue b) → (IsTrue b → BeginsArguments all fronts) × (BeginsArguments all fronts → IsTrue b)
-by_next b kind kinds all word next fronts e f some ok h =
-    (λ yes. subst (λ (ks : List Argument). BeginsArguments ks fronts) (sym e) (subst (BeginsArguments (kind ∷ kinds)) (sym f) (next_fronts kind kinds word next some ok (h.0 yes))),
-        λ begins. h.1 (are_next kind kinds word next some (subst (BeginsArguments (kind ∷ kinds)) f (subst (λ (ks : List Argument). BeginsArguments ks fronts) e begins))).1)
+by_next b kind kinds all word next fronts e f some ok h = (
+  λ yes. subst (λ (ks : List Argument). BeginsArguments ks fronts) (sym e) (subst (BeginsArguments (kind ∷ kinds)) (sym f) (next_fronts kind kinds word next some ok (h.0 yes))),
+  λ begins. h.1 (are_next kind kinds word next some (subst (BeginsArguments (kind ∷ kinds)) f (subst (λ (ks : List Argument). BeginsArguments ks fronts) e begins))).1,
+)
 
 pub some_next : {A B : Type 0} (f : A → B) (xs : List A) → 2 ≤ length xs → 0 < length (map f (take (length xs - 1) (drop 1 xs)))
 some_next f [] two = absurd (omega arith)

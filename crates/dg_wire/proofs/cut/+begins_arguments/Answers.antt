@@ -1,4 +1,4 @@
-use Rattle.std.proofs.Common.{◌≡◌, ℕ, List, map, refl, ap, Bor, arith}
+use Rattle.std.proofs.Common.{ℕ, List, map, refl, ap, Bor, arith}
 use Rattle.dg_wire.proofs.WordCuts.{slice_cons, slice_one, some_next, no_kinds, by_front, by_next}
 use Rattle.dg_wire.proofs.cut.+begins_arguments.Goals as goal
 

@@ -1,4 +1,4 @@
-use Rattle.std.proofs.Common.{◌≡◌, ℕ, List, map, refl, ap, Bor, arith}
+use Rattle.std.proofs.Common.{ℕ, List, map, ap, Bor, arith}
 use Rattle.dg_wire.proofs.WordCuts.{slice_cons, slice_one, some_next}
 use Rattle.dg_wire.proofs.RequestCuts.{by_verb, by_arguments}
 use Rattle.dg_wire.proofs.cut.begins_words.Goals as goal

@@ -1,4 +1,4 @@
-use Rattle.std.proofs.Common.{◌≡◌, sym, ◌∙◌}
+use Rattle.std.proofs.Common.{sym, ◌∙◌}
 use Rattle.std.proofs.lemmas.Bool.{false≢true}
 use Rattle.dg_wire.proofs.FrameCuts.{no_line, none_whole, cut_line}
 use Rattle.dg_wire.proofs.frame.within_line.Goals as goal

@@ -1,4 +1,4 @@
-use Rattle.std.proofs.Common.{◌≡◌, ◌≤◌, ℕ, List, [], length, ap, sym, subst, ◌∙◌, inl, inr, arith}
+use Rattle.std.proofs.Common.{◌≡◌, ◌≤◌, [], length, ap, sym, subst, ◌∙◌, inl, inr, arith}
 use Rattle.std.proofs.lemmas.Bool.Decides.{nat_tests}
 use Rattle.std.proofs.lemmas.List.{append-nil}
 use Rattle.dg_wire.specs.Frames.{IsName}
@@ -22,6 +22,7 @@ returns-then-is_empty c =
     (λ _. empty_begins c.args.bytes.now none, λ _. c.if-is_empty.true)
 
 pub returns-else-is_empty : goal.returns-else-is_empty
-returns-else-is_empty c =
-    (λ h. ([], subst IsName (sym (append-nil c.args.bytes.now)) (sym c.is_name-else-is_empty.ensures ∙ h)),
-        λ begins. elim (name_front c.args.bytes.now c.in-None.ensures begins) [ inl e ↦ absurd (let none : length c.args.bytes.now ≡ 0 = ap length e in grind (arith, nat_tests, c.if-is_empty.ensures)) | inr h ↦ c.is_name-else-is_empty.ensures ∙ h ])
+returns-else-is_empty c = (
+  λ h. ([], subst IsName (sym (append-nil c.args.bytes.now)) (sym c.is_name-else-is_empty.ensures ∙ h)),
+  λ begins. elim (name_front c.args.bytes.now c.in-None.ensures begins) [ inl e ↦ absurd (let none : length c.args.bytes.now ≡ 0 = ap length e in grind (arith, nat_tests, c.if-is_empty.ensures)) | inr h ↦ c.is_name-else-is_empty.ensures ∙ h ],
+)
