@@ -150,12 +150,12 @@ same_verb a b e =
 pub frame_unique : (a b : Request) (r s : List ℕ) → IsRequest a → IsRequest b → frame a ++ r ≡ frame b ++ s → (a ≡ b) × (r ≡ s)
 frame_unique a b r s ok too e =
     let parts = unique_line (line a) (line b) (behind_line (request_body a) ++ r) (behind_line (request_body b) ++ s)
-      (join_feed (name_of (verb_of a)) (arguments a) (words_ink a ok))
-      (join_feed (name_of (verb_of b)) (arguments b) (words_ink b too))
-      (sym (frame_parts a r) ∙ e ∙ frame_parts b s) in
+    (join_feed (name_of (verb_of a)) (arguments a) (words_ink a ok))
+    (join_feed (name_of (verb_of b)) (arguments b) (words_ink b too))
+    (sym (frame_parts a r) ∙ e ∙ frame_parts b s) in
     let said = same_verb a b (same_words a b ok too parts.0) in
     let long : option_map length (request_body a) ≡ option_map length (request_body b) =
-      sym (told_len-request a ok) ∙ ap (λ (v : Verb). told_len v (arguments a)) said.0 ∙ ap (told_len (verb_of b)) said.1 ∙ told_len-request b too in
+    sym (told_len-request a ok) ∙ ap (λ (v : Verb). told_len v (arguments a)) said.0 ∙ ap (told_len (verb_of b)) said.1 ∙ told_len-request b too in
     let body = same_body (request_body a) (request_body b) r s long parts.1 in
     (same_request a b ok too said.0 said.1 body.0, body.1)
 

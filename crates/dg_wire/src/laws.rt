@@ -10,5 +10,4 @@ use crate::Request;
 /// It does nothing: its contract is a law of the frames.
 pub fn requests_are_unique()
     ensures { (bytes : List ℕ) (requests others : List Request) (rest more : List ℕ) → Spells bytes requests rest → Spells bytes others more → (requests ≡ others) × (rest ≡ more) }
-{
-}
+{}

@@ -17,6 +17,7 @@ returns-then-not-branch-clause-bad_frame g c = λ offset e.
     let said = rw e at c.at_end.ensures.err in
     let found = rw (c.in-Partial.is, c.within_limit.ensures) at c.in_ok-request.ensures.found in
     let short : length (taken_of c.pieces.self) ≤ 67108864 = grind (arith, c.if-is_long.ensures) in
-    let end = rw c.if-not-branch.true at c.in_ok-take_more.ensures.end in
-    (same_offset offset (length c.take_more.new.self.answered) said.0,
-        inr (ends_within c.pieces.self c.take_more.new.self _ short found.0 found.1 c.take_more.ensures.answered end.1 said.1 end.0))
+    let end = rw c.if-not-branch.true at c.in_ok-take_more.ensures.end in (
+      same_offset offset (length c.take_more.new.self.answered) said.0,
+      inr (ends_within c.pieces.self c.take_more.new.self _ short found.0 found.1 c.take_more.ensures.answered end.1 said.1 end.0),
+    )
