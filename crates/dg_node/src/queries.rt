@@ -57,12 +57,7 @@ impl PlainMachine {
 }
 
 // The text that the commits up to a timestamp set last.
-fn last_committed<'a>(
-    uid: u64,
-    name: &[u8],
-    ts: u64,
-    commits: &'a [Committed],
-) -> Option<&'a Fact>
+fn last_committed<'a>(uid: u64, name: &[u8], ts: u64, commits: &'a [Committed]) -> Option<&'a Fact>
     ensures { plain.objects_of (option_copied result) ≡ plain.objects_after_commits uid name.now ts commits.now [] }
 {
     let mut last = None;

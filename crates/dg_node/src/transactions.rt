@@ -88,7 +88,11 @@ impl PlainMachine {
                 Ok(Reply::Commit { sid: SESSION, ts })
             }
             Err(refused) => {
-                let Committed { start, ts: _, facts } = refused.value;
+                let Committed {
+                    start,
+                    ts: _,
+                    facts,
+                } = refused.value;
                 self.session = Some(Opened { start, own: facts });
                 Err(OutOfMemory)
             }

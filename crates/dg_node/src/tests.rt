@@ -1,0 +1,194 @@
+// Whole scripts through the top call, over sources and sinks in memory.
+use super::*;
+use dg_io::{MemSink, MemSource, OpenGate};
+use std::alloc::{AllocError, Global};
+use std::fmt::Write;
+use std::process::Abort;
+use std::sync::Wait;
+use std::test::Fail;
+use std::thread::Threads;
+
+// One session, from the first declaration to a verb that isn't built.
+const SESSION: &str =
+    "alter 14\nname: string .\nbegin 1\nmutate 1 20\n<0x1> <name> \"Ann\" .\ncommit 1\nbegin 1\nquery 1 30\n{ q(func: uid(0x1)) { name } }\nbegin 1\ncommit 1\nquery 1 30\n{ q(func: uid(0x1)) { name } }\nline\n";
+
+const SESSION_REPLIES: &str =
+    "ok alter 1 2\nok begin 1 3\nok mutate 1 11\n{\"uids\":{}}\nok commit 1 4\nok begin 1 5\nok query 1 31\n{\"data\":{\"q\":[{\"name\":\"Ann\"}]}}\nerror 2 SessionOpen 1\nok commit 1 0\nerror 1 NoSession 1\nerror 98 Unbuilt\n";
+
+// What a script is run with, and what has to come of it.
+#[derive(Clone, Copy)]
+struct Case<'a> {
+    script: &'a str,
+    most: usize,
+    failing_read: u64,
+    failing_write: u64,
+    status: Status,
+    written: &'a str,
+}
+
+// A list of one number, or of none for 0, which is no call's number.
+fn calls(alloc: Global, number: u64) -> Result<Vec<u64>, AllocError> {
+    let mut numbers = Vec::new(alloc);
+    if number > 0 {
+        numbers.push(number)?;
+    }
+    Ok(numbers)
+}
+
+fn words(alloc: Global, text: &str) -> Result<Vec<String>, AllocError> {
+    let mut words = Vec::new(alloc);
+    for word in text.split(' ') {
+        words.push(String::from_str(alloc, word)?)?;
+    }
+    Ok(words)
+}
+
+fn run_case<R: Threads + Wait + Sync + Abort>(
+    rt: &R,
+    alloc: Global,
+    case: &Case,
+) -> Result<(), Fail> {
+    let bytes = Vec::from_slice(alloc, case.script.as_bytes())?;
+    let most = case.most.max(1);
+    let mut source = MemSource::new(bytes, calls(alloc, case.failing_read)?, most);
+    let mut sink = MemSink::new(alloc, calls(alloc, case.failing_write)?, most);
+    let words = words(alloc, "run")?;
+    let status = dgraph_top(rt, alloc, &words, &mut source, &mut sink, &OpenGate);
+    assert_eq!(rt; status, case.status, "of {:?}", case.script);
+    assert_eq!(rt;
+        sink.bytes(),
+        case.written.as_bytes(),
+        "of {:?}",
+        case.script
+    );
+    Ok(())
+}
+
+#[test]
+fn runs_scripts(rt: HostRuntime) -> Result<(), Fail> {
+    let alloc = rt.alloc();
+    let whole = Case {
+        script: SESSION,
+        most: 65_536,
+        failing_read: 0,
+        failing_write: 0,
+        status: Status::Done,
+        written: SESSION_REPLIES,
+    };
+    let cases = [
+        whole,
+        Case { most: 1, ..whole },
+        Case {
+            script: "",
+            written: "",
+            ..whole
+        },
+        Case {
+            failing_read: 1,
+            status: Status::ReadFault,
+            written: "",
+            ..whole
+        },
+        Case {
+            failing_write: 1,
+            status: Status::WriteFault,
+            written: "",
+            ..whole
+        },
+        Case {
+            most: 1,
+            failing_write: 4,
+            status: Status::WriteFault,
+            written: "ok ",
+            ..whole
+        },
+        Case {
+            script: "begin 1\nbegin 01\n",
+            status: Status::BadFrame { offset: 8 },
+            written: "ok begin 1 1\n",
+            ..whole
+        },
+        Case {
+            script: "begin 1\nquery 1 5\n{}",
+            status: Status::BadFrame { offset: 8 },
+            written: "ok begin 1 1\n",
+            ..whole
+        },
+    ];
+    for case in &cases {
+        run_case(&rt, alloc, case)?;
+    }
+    Ok(())
+}
+
+// Fifty transactions that each set a name at a node of their own and at the first node, and a last one that asks.
+fn fifty(alloc: Global) -> Result<(String, String), AllocError> {
+    let mut script = String::from_str(alloc, "alter 14\nname: string .\n")?;
+    let mut replies = String::from_str(alloc, "ok alter 1 2\n")?;
+    for n in 10..60u64 {
+        let start = 2 * n - 17;
+        let commit = start + 1;
+        write!(script, "begin 1\nmutate 1 21\n<0x{n}> <name> \"n{n}\" .\n")?;
+        write!(script, "mutate 1 20\n<0x1> <name> \"n{n}\" .\ncommit 1\n")?;
+        write!(
+            replies,
+            "ok begin 1 {start}\nok mutate 1 11\n{{\"uids\":{{}}}}\n"
+        )?;
+        write!(
+            replies,
+            "ok mutate 1 11\n{{\"uids\":{{}}}}\nok commit 1 {commit}\n"
+        )?;
+    }
+    script.push_str("begin 1\nquery 1 31\n{ q(func: uid(0x37)) { name } }\n")?;
+    script.push_str("query 1 30\n{ q(func: uid(0x1)) { name } }\n")?;
+    replies.push_str("ok begin 1 103\nok query 1 31\n{\"data\":{\"q\":[{\"name\":\"n37\"}]}}\n")?;
+    replies.push_str("ok query 1 31\n{\"data\":{\"q\":[{\"name\":\"n59\"}]}}\n")?;
+    Ok((script, replies))
+}
+
+#[test]
+fn runs_fifty_transactions(rt: HostRuntime) -> Result<(), Fail> {
+    let alloc = rt.alloc();
+    let (script, replies) = fifty(alloc)?;
+    let case = Case {
+        script: script.as_str(),
+        most: 65_536,
+        failing_read: 0,
+        failing_write: 0,
+        status: Status::Done,
+        written: replies.as_str(),
+    };
+    run_case(&rt, alloc, &case)
+}
+
+#[test]
+fn refuses_bad_words(rt: HostRuntime) -> Result<(), Fail> {
+    let alloc = rt.alloc();
+    for text in ["", "walk", "runs", "run run", "run --groups 2", "Run"] {
+        let mut source = MemSource::new(Vec::new(alloc), Vec::new(alloc), 1);
+        let mut sink = MemSink::new(alloc, Vec::new(alloc), 1);
+        let words = words(alloc, text)?;
+        let status = dgraph_top(&rt, alloc, &words, &mut source, &mut sink, &OpenGate);
+        assert_eq!(rt; status, Status::BadWords, "of {text:?}");
+    }
+    Ok(())
+}
+
+// What stands on standard error, and the number of the process, by the status.
+#[test]
+fn tells_why_it_ended(rt: HostRuntime) -> Result<(), Fail> {
+    let cases = [
+        (Status::ReadFault, 1, "dgraph: read fault"),
+        (Status::WriteFault, 2, "dgraph: write fault"),
+        (Status::BadWords, 3, "dgraph: bad words"),
+        (Status::BadFrame { offset: 8 }, 4, "dgraph: bad frame at 8"),
+        (Status::TooLong, 5, "dgraph: input too long"),
+        (Status::OutOfMemory, 6, "dgraph: out of memory"),
+    ];
+    for (status, number, text) in cases {
+        assert_eq!(rt; status.number(), number);
+        let message = format!(in rt.alloc(); "{status}")?;
+        assert_eq!(rt; message.as_str(), text);
+    }
+    Ok(())
+}
