@@ -1,9 +1,9 @@
-use Rattle.std.proofs.Common.{◌≡◌, ℕ, ◌-◌, ◌<◌, ◌≤◌, true, eqb, List, [], ◌∷◌, ◌++◌, length, Option, Some, None, refl, ap, sym, ◌∙◌, append_assoc, length-append, arith}
+use Rattle.std.proofs.Common.{◌≡◌, ℕ, ◌-◌, ◌<◌, ◌≤◌, true, eqb, List, [], ◌∷◌, ◌++◌, length, take, drop, Option, Some, None, refl, ap, sym, ◌∙◌, append_assoc, length-append, arith}
 use Rattle.std.specs.Prelude.{replicate}
 use Rattle.std.specs.List.{slice_split}
 use Rattle.std.proofs.Math.ListN.{length-replicate}
-use Rattle.std.proofs.Math.Seq.{take-length}
-use Rattle.std.proofs.lemmas.List.{append-nil}
+use Rattle.std.proofs.Math.Seq.{take-length, take-append_seam}
+use Rattle.std.proofs.lemmas.List.{append-nil, take-append-drop, take-append-le}
 use Rattle.dg_wire.specs.declared.request.Request.{Request}
 use Rattle.dg_wire.specs.declared.head.Opened.{Opened}
 use Rattle.dg_wire.specs.declared.head.Head.TheVariants.{Open}
@@ -23,20 +23,9 @@ within_front bytes more rest r none e longer =
 
 -- the shorter of two fronts is one of the longer
 shorter : (a b x y : List ℕ) → length a ≤ length b → a ++ x ≡ b ++ y → IsFront a b
-shorter [] b x y le e = (b, refl)
-shorter (c ∷ a) [] x y le e = absurd (omega arith)
-shorter (c ∷ a) (d ∷ b) x y le e =
-    let rest = shorter a b x y (omega arith) (tails c d (a ++ x) (b ++ y) e) in
-    (rest.0, whole c d (a ++ rest.0) b (heads c d (a ++ x) (b ++ y) e) rest.1)
-  where
-    tails : (c d : ℕ) (x y : List ℕ) → c ∷ x ≡ d ∷ y → x ≡ y
-    tails c d x y e = cc
-
-    heads : (c d : ℕ) (x y : List ℕ) → c ∷ x ≡ d ∷ y → c ≡ d
-    heads c d x y e = cc
-
-    whole : (c d : ℕ) (a b : List ℕ) → c ≡ d → a ≡ b → c ∷ a ≡ d ∷ b
-    whole c d a b e f = cc
+shorter a b x y le e =
+    let front : a ≡ take (length a) b = sym (take-append_seam a x) ∙ ap (take (length a)) e ∙ take-append-le (length a) b y le in
+    (drop (length a) b, ap (λ (l : List ℕ). l ++ drop (length a) b) front ∙ take-append-drop (length a) b)
 
 -- bytes with no line feed that begin no line begin no frame
 pub no_line : (bytes : List ℕ) → no_feed bytes ≡ true → (BeginsLine bytes → ⊥) → NoFrame bytes

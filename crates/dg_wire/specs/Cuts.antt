@@ -51,8 +51,8 @@ takes verbs.State = []
 -- a word for each argument
 abbrev pub AreArguments : List Argument → List (List ℕ) → Type 0
 AreArguments [] [] = Unit {0}
-AreArguments (kind ∷ kinds) (word ∷ words) = IsArgument kind word × AreArguments kinds words
-AreArguments kinds words = ⊥
+AreArguments (argument ∷ arguments) (word ∷ words) = IsArgument argument word × AreArguments arguments words
+AreArguments arguments words = ⊥
 
 -- the first words, of which the last may be cut short
 abbrev pub AreFirst : List (List ℕ) → List (List ℕ) → Type 0
@@ -62,7 +62,7 @@ AreFirst fronts words = ⊥
 
 -- the first words of these arguments
 abbrev pub BeginsArguments : List Argument → List (List ℕ) → Type 0
-BeginsArguments kinds fronts = (words : List (List ℕ)) × AreArguments kinds words × AreFirst fronts words
+BeginsArguments arguments fronts = (words : List (List ℕ)) × AreArguments arguments words × AreFirst fronts words
 
 -- the first words of a request
 abbrev pub BeginsWords : List (List ℕ) → Type 0

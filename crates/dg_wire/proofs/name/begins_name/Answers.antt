@@ -6,13 +6,13 @@ use Rattle.dg_wire.specs.Cuts.{Begins}
 use Rattle.dg_wire.proofs.NameCuts.{name_front, name_before_dot, dot_begins, empty_begins}
 use Rattle.dg_wire.proofs.name.begins_name.Goals as goal
 
-pub returns-then-name-le62 : goal.returns-then-name-le62
-returns-then-name-le62 c =
+pub returns-then-name-le-MAX_NAME : goal.returns-then-name-le-MAX_NAME
+returns-then-name-le-MAX_NAME c =
     let is = c.in-Some.ensures in
     (λ h. subst (Begins IsName) (sym is) (dot_begins c.in-Some.name.now (omega arith) (sym c.is_name.ensures ∙ h)), λ begins. c.is_name.ensures ∙ (name_before_dot c.in-Some.name.now (subst (Begins IsName) is begins)).1)
 
-pub returns-else-name-le62 : goal.returns-else-name-le62
-returns-else-name-le62 c =
+pub returns-else-name-le-MAX_NAME : goal.returns-else-name-le-MAX_NAME
+returns-else-name-le-MAX_NAME c =
     let is = c.in-Some.ensures in
     (λ h. absurd (grind (arith, nat_tests)), λ begins. let room : length c.in-Some.name.now ≤ 62 = (name_before_dot c.in-Some.name.now (subst (Begins IsName) is begins)).0 in absurd (omega arith))
 
