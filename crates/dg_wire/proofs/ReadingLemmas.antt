@@ -1,9 +1,9 @@
-use Rattle.std.proofs.Common.{◌≡◌, ◌≢◌, ℕ, ◌+◌, ◌-◌, ◌<◌, ◌≤◌, List, [], ◌∷◌, ◌++◌, length, take, Option, Some, None, refl, ap, sym, subst, ◌∙◌, length-append, arith}
+use Rattle.std.proofs.Common.{◌≡◌, ◌≢◌, ℕ, ◌-◌, ◌<◌, ◌≤◌, List, [], ◌∷◌, ◌++◌, length, Option, refl, ap, sym, subst, ◌∙◌, length-append, arith}
 use Rattle.std.proofs.lemmas.List.{take_all}
 use Rattle.std.specs.Io.KnownBytes.{IsAtEnd}
 use Rattle.dg_wire.specs.Exact.{NoWhole, IsCutFrame}
 use Rattle.dg_wire.specs.Reading.{Reading, taken_of, within_limit, INPUT_LIMIT}
-use Rattle.dg_wire.specs.BadFrames.{EndsWithinFrame, IsBroken}
+use Rattle.dg_wire.specs.BadFrames.{EndsWithinFrame}
 
 -- of an input that isn't too long, all lies within the limit
 within_limit-whole : (reading : Reading) → length (taken_of reading) ≤ INPUT_LIMIT → within_limit reading ≡ reading.rest

@@ -4,8 +4,8 @@ ghost use Rattle.dg_wire.specs.Spelling.{Spells};
 
 use crate::Request;
 
-/// Bytes are the frames of one list of requests: two lists whose frames they begin with, where no
-/// whole frame stands behind, are equal, and so is what stands behind.
+/// Bytes spell at most one list of requests: where the frames of two lists begin the same bytes, and no
+/// whole frame stands behind either, the lists are equal, and so is what stands behind.
 ///
 /// It does nothing: its contract is a law of the frames.
 pub fn requests_are_unique()

@@ -1,7 +1,7 @@
 // Frames that are cut short, sources that fail, and the texts of replies.
 use super::*;
 use dg_io::{Failed, MemSource, Source};
-use dg_values::{List, Mem, Str};
+use dg_values::{List, Str};
 use std::alloc::{AllocError, Global};
 use std::fmt::Write;
 use std::test::Fail;
@@ -100,217 +100,169 @@ fn answers_a_read_fault_again(rt: HostRuntime) -> Result<(), Fail> {
     Ok(())
 }
 
-fn name(alloc: Global) -> Mem<Str> {
-    Str::from_str(alloc, "name")
-}
-
-fn hello(alloc: Global) -> Mem<List<u8>> {
-    Ok(List::from_vec(Vec::from_slice(alloc, b"hello")?))
-}
-
-fn text_of(alloc: Global, reply: &Reply) -> Mem<Vec<u8>> {
-    let mut out = Vec::new(alloc);
-    write_reply(alloc, &mut out, reply)?;
-    Ok(out)
+// A reply by its place in the table.
+fn reply_at(at: u32, pred: Str, body: List<u8>) -> Reply {
+    match at {
+        0 => Reply::Alter {
+            start: 1,
+            commit: 2,
+        },
+        1 => Reply::Begin { sid: 1, start: 3 },
+        2 => Reply::Mutate { sid: 16, body },
+        3 => Reply::Upsert { sid: 1, body },
+        4 => Reply::Query { sid: 2, body },
+        5 => Reply::Commit { sid: 1, ts: 4 },
+        6 => Reply::Discard { sid: 2 },
+        7 => Reply::Line { line: 4 },
+        8 => Reply::Roll {
+            pred,
+            lists: 3,
+            upto: 7,
+        },
+        9 => Reply::RollPlan {
+            pred,
+            lists: 2,
+            upto: 4,
+        },
+        10 => Reply::RollInstall {
+            pred,
+            lists: 2,
+            upto: 5,
+        },
+        11 => Reply::MoveStart { pred, group: 2 },
+        12 => Reply::MoveCopy { pred },
+        13 => Reply::MoveHold { pred },
+        14 => Reply::MoveFlip { pred, group: 2 },
+        15 => Reply::MoveOff { pred },
+        16 => Reply::State { body },
+        _ => Reply::Refused(Refusal::NoSession { sid: 2 }),
+    }
 }
 
 #[test]
 fn writes_replies(rt: HostRuntime) -> Result<(), Fail> {
     let alloc = rt.alloc();
-    for (reply, wanted) in [
-        (
-            Reply::Alter {
-                start: 1,
-                commit: 2,
-            },
-            "ok alter 1 2\n",
-        ),
-        (Reply::Begin { sid: 1, start: 3 }, "ok begin 1 3\n"),
-        (
-            Reply::Mutate {
-                sid: 16,
-                body: hello(alloc)?,
-            },
-            "ok mutate 16 5\nhello\n",
-        ),
-        (
-            Reply::Upsert {
-                sid: 1,
-                body: hello(alloc)?,
-            },
-            "ok upsert 1 5\nhello\n",
-        ),
-        (
-            Reply::Query {
-                sid: 2,
-                body: List::new(alloc),
-            },
-            "ok query 2 0\n\n",
-        ),
-        (Reply::Commit { sid: 1, ts: 4 }, "ok commit 1 4\n"),
-        (Reply::Discard { sid: 2 }, "ok discard 2\n"),
-        (Reply::Line { line: 4 }, "ok line 4\n"),
-        (
-            Reply::Roll {
-                pred: name(alloc)?,
-                lists: 3,
-                upto: 7,
-            },
-            "ok roll name 3 7\n",
-        ),
-        (
-            Reply::RollPlan {
-                pred: name(alloc)?,
-                lists: 2,
-                upto: 4,
-            },
-            "ok rollplan name 2 4\n",
-        ),
-        (
-            Reply::RollInstall {
-                pred: name(alloc)?,
-                lists: 2,
-                upto: 4,
-            },
-            "ok rollinstall name 2 4\n",
-        ),
-        (
-            Reply::MoveStart {
-                pred: name(alloc)?,
-                group: 2,
-            },
-            "ok movestart name 2\n",
-        ),
-        (Reply::MoveCopy { pred: name(alloc)? }, "ok movecopy name\n"),
-        (Reply::MoveHold { pred: name(alloc)? }, "ok movehold name\n"),
-        (
-            Reply::MoveFlip {
-                pred: name(alloc)?,
-                group: 2,
-            },
-            "ok moveflip name 2\n",
-        ),
-        (Reply::MoveOff { pred: name(alloc)? }, "ok moveoff name\n"),
-        (
-            Reply::State {
-                body: hello(alloc)?,
-            },
-            "ok state 5\nhello\n",
-        ),
-        (
-            Reply::Refused(Refusal::NoSession { sid: 2 }),
-            "error 1 NoSession 2\n",
-        ),
+    for (at, wanted) in [
+        (0, "ok alter 1 2\n"),
+        (1, "ok begin 1 3\n"),
+        (2, "ok mutate 16 5\nhello\n"),
+        (3, "ok upsert 1 5\nhello\n"),
+        (4, "ok query 2 5\nhello\n"),
+        (5, "ok commit 1 4\n"),
+        (6, "ok discard 2\n"),
+        (7, "ok line 4\n"),
+        (8, "ok roll name 3 7\n"),
+        (9, "ok rollplan name 2 4\n"),
+        (10, "ok rollinstall name 2 5\n"),
+        (11, "ok movestart name 2\n"),
+        (12, "ok movecopy name\n"),
+        (13, "ok movehold name\n"),
+        (14, "ok moveflip name 2\n"),
+        (15, "ok moveoff name\n"),
+        (16, "ok state 5\nhello\n"),
+        (17, "error 1 NoSession 2\n"),
     ] {
-        let text = text_of(alloc, &reply)?;
-        assert_eq!(rt; text.as_slice(), wanted.as_bytes());
+        let body = List::from_vec(Vec::from_slice(alloc, b"hello")?);
+        let reply = reply_at(at, Str::from_str(alloc, "name")?, body);
+        let mut out = Vec::new(alloc);
+        write_reply(alloc, &mut out, &reply)?;
+        assert_eq!(rt; out.as_slice(), wanted.as_bytes(), "reply {at}");
     }
     Ok(())
+}
+
+// A refusal by its number.
+fn refusal_of(number: u32, name: Str, other: Str) -> Refusal {
+    match number {
+        1 => Refusal::NoSession { sid: 2 },
+        2 => Refusal::SessionOpen { sid: 1 },
+        3 => Refusal::BadToken { offset: 27 },
+        4 => Refusal::BadSyntax { offset: 20 },
+        5 => Refusal::TooDeep { offset: 40 },
+        6 => Refusal::UnknownVariable { name },
+        7 => Refusal::VariableTwice { name },
+        8 => Refusal::VariableCycle { name },
+        9 => Refusal::NotIndexed {
+            pred: name,
+            func: other,
+        },
+        10 => Refusal::BadLiteral { name },
+        11 => Refusal::BadPage { argument: name },
+        12 => Refusal::BadDepth { n: -33 },
+        13 => Refusal::NoPredicate { pred: name },
+        14 => Refusal::WrongObject { pred: name },
+        15 => Refusal::UidsSpent { next: 0x1f },
+        16 => Refusal::SumOverflow { name },
+        17 => Refusal::AnswerTooLarge,
+        18 => Refusal::Moving { pred: name },
+        19 => Refusal::Conflict { ts: 7, key: other },
+        20 => Refusal::Pending { start: 3 },
+        22 => Refusal::HasData { pred: name },
+        23 => Refusal::NoGroup { group: 9 },
+        24 => Refusal::SameGroup { group: 1 },
+        25 => Refusal::AlreadyMoving { pred: name },
+        26 => Refusal::NotMoving {
+            pred: name,
+            phase: other,
+        },
+        27 => Refusal::SchemaSyntax { line: 1 },
+        28 => Refusal::TimestampsSpent { next: 31 },
+        29 => Refusal::Stale { rolled: 4 },
+        30 => Refusal::NotHere {
+            pred: name,
+            group: 2,
+        },
+        31 => Refusal::NoWork { pred: name },
+        32 => Refusal::OldCopy {
+            pred: name,
+            group: 1,
+            until: 6,
+        },
+        98 => Refusal::Unbuilt,
+        _ => Refusal::Memory,
+    }
 }
 
 #[test]
 fn writes_refusals(rt: HostRuntime) -> Result<(), Fail> {
     let alloc = rt.alloc();
-    for (refusal, wanted) in [
-        (Refusal::NoSession { sid: 2 }, "1 NoSession 2"),
-        (Refusal::SessionOpen { sid: 1 }, "2 SessionOpen 1"),
-        (Refusal::BadToken { offset: 27 }, "3 BadToken 27"),
-        (Refusal::BadSyntax { offset: 20 }, "4 BadSyntax 20"),
-        (Refusal::TooDeep { offset: 40 }, "5 TooDeep 40"),
-        (
-            Refusal::UnknownVariable { name: name(alloc)? },
-            "6 UnknownVariable name",
-        ),
-        (
-            Refusal::VariableTwice { name: name(alloc)? },
-            "7 VariableTwice name",
-        ),
-        (
-            Refusal::VariableCycle { name: name(alloc)? },
-            "8 VariableCycle name",
-        ),
-        (
-            Refusal::NotIndexed {
-                pred: name(alloc)?,
-                func: Str::from_str(alloc, "ge")?,
-            },
-            "9 NotIndexed name ge",
-        ),
-        (
-            Refusal::BadLiteral { name: name(alloc)? },
-            "10 BadLiteral name",
-        ),
-        (
-            Refusal::BadPage {
-                argument: Str::from_str(alloc, "first")?,
-            },
-            "11 BadPage first",
-        ),
-        (Refusal::BadDepth { n: -33 }, "12 BadDepth -33"),
-        (
-            Refusal::NoPredicate { pred: name(alloc)? },
-            "13 NoPredicate name",
-        ),
-        (
-            Refusal::WrongObject { pred: name(alloc)? },
-            "14 WrongObject name",
-        ),
-        (Refusal::UidsSpent { next: 0x1f }, "15 UidsSpent 0x1f"),
-        (
-            Refusal::SumOverflow { name: name(alloc)? },
-            "16 SumOverflow name",
-        ),
-        (Refusal::AnswerTooLarge, "17 AnswerTooLarge"),
-        (Refusal::Moving { pred: name(alloc)? }, "18 Moving name"),
-        (
-            Refusal::Conflict {
-                ts: 7,
-                key: Str::from_str(alloc, "data name 0x1")?,
-            },
-            "19 Conflict 7 data name 0x1",
-        ),
-        (Refusal::Pending { start: 3 }, "20 Pending 3"),
-        (Refusal::HasData { pred: name(alloc)? }, "22 HasData name"),
-        (Refusal::NoGroup { group: 9 }, "23 NoGroup 9"),
-        (Refusal::SameGroup { group: 1 }, "24 SameGroup 1"),
-        (
-            Refusal::AlreadyMoving { pred: name(alloc)? },
-            "25 AlreadyMoving name",
-        ),
-        (
-            Refusal::NotMoving {
-                pred: name(alloc)?,
-                phase: Str::from_str(alloc, "none")?,
-            },
-            "26 NotMoving name none",
-        ),
-        (Refusal::SchemaSyntax { line: 1 }, "27 SchemaSyntax 1"),
-        (
-            Refusal::TimestampsSpent {
-                next: 4_611_686_018_427_387_904,
-            },
-            "28 TimestampsSpent 4611686018427387904",
-        ),
-        (Refusal::Stale { rolled: 4 }, "29 Stale 4"),
-        (
-            Refusal::NotHere {
-                pred: name(alloc)?,
-                group: 2,
-            },
-            "30 NotHere name 2",
-        ),
-        (Refusal::NoWork { pred: name(alloc)? }, "31 NoWork name"),
-        (
-            Refusal::OldCopy {
-                pred: name(alloc)?,
-                group: 1,
-                until: 6,
-            },
-            "32 OldCopy name 1 6",
-        ),
-        (Refusal::Unbuilt, "98 Unbuilt"),
-        (Refusal::Memory, "99 Memory"),
+    for (number, wanted) in [
+        (1, "1 NoSession 2"),
+        (2, "2 SessionOpen 1"),
+        (3, "3 BadToken 27"),
+        (4, "4 BadSyntax 20"),
+        (5, "5 TooDeep 40"),
+        (6, "6 UnknownVariable name"),
+        (7, "7 VariableTwice name"),
+        (8, "8 VariableCycle name"),
+        (9, "9 NotIndexed name other"),
+        (10, "10 BadLiteral name"),
+        (11, "11 BadPage name"),
+        (12, "12 BadDepth -33"),
+        (13, "13 NoPredicate name"),
+        (14, "14 WrongObject name"),
+        (15, "15 UidsSpent 0x1f"),
+        (16, "16 SumOverflow name"),
+        (17, "17 AnswerTooLarge"),
+        (18, "18 Moving name"),
+        (19, "19 Conflict 7 other"),
+        (20, "20 Pending 3"),
+        (22, "22 HasData name"),
+        (23, "23 NoGroup 9"),
+        (24, "24 SameGroup 1"),
+        (25, "25 AlreadyMoving name"),
+        (26, "26 NotMoving name other"),
+        (27, "27 SchemaSyntax 1"),
+        (28, "28 TimestampsSpent 31"),
+        (29, "29 Stale 4"),
+        (30, "30 NotHere name 2"),
+        (31, "31 NoWork name"),
+        (32, "32 OldCopy name 1 6"),
+        (98, "98 Unbuilt"),
+        (99, "99 Memory"),
     ] {
+        let name = Str::from_str(alloc, "name")?;
+        let refusal = refusal_of(number, name, Str::from_str(alloc, "other")?);
         let text = format!(in alloc; "{refusal}")?;
         assert_eq!(rt; text.as_str(), wanted);
     }

@@ -1,7 +1,6 @@
-use Rattle.std.proofs.Common.{◌≡◌, ◌≢◌, ◌≤◌, ◌++◌, ℕ, List, [], length, ap, sym, ◌∙◌, inr, arith}
+use Rattle.std.proofs.Common.{◌≡◌, ◌≤◌, ℕ, length, inr, arith}
 use Rattle.dg_wire.specs.declared.frames.FrameFault.TheVariants as faults
-use Rattle.dg_wire.specs.Exact.{NoWhole, IsCutFrame}
-use Rattle.dg_wire.specs.Reading.{taken_of, within_limit}
+use Rattle.dg_wire.specs.Reading.{taken_of, INPUT_LIMIT}
 use Rattle.dg_wire.proofs.TakingLemmas.{Takes-then}
 use Rattle.dg_wire.proofs.ReadingLemmas.{ends_within}
 use Rattle.dg_wire.proofs.frames.Frames.find.Goals as goal
@@ -16,7 +15,7 @@ pub returns-then-not-branch-clause-bad_frame : goal.returns-then-not-branch-clau
 returns-then-not-branch-clause-bad_frame g c = λ offset e.
     let said = rw e at c.at_end.ensures.err in
     let found = rw (c.in-Partial.is, c.within_limit.ensures) at c.in_ok-request.ensures.found in
-    let short : length (taken_of c.pieces.self) ≤ 67108864 = grind (arith, c.if-is_long.ensures) in
+    let short : length (taken_of c.pieces.self) ≤ INPUT_LIMIT = grind (arith, c.if-is_long.ensures) in
     let end = rw c.if-not-branch.true at c.in_ok-take_more.ensures.end in (
       same_offset offset (length c.take_more.new.self.answered) said.0,
       inr (ends_within c.pieces.self c.take_more.new.self _ short found.0 found.1 c.take_more.ensures.answered end.1 said.1 end.0),
