@@ -49,7 +49,7 @@ fn answers_what_stands_before_a_cut(rt: HostRuntime) -> Result<(), Fail> {
         for len in 0..FRAMES.len() + 1 {
             let bytes = Vec::from_slice(alloc, &FRAMES[..len])?;
             let mut source = MemSource::new(bytes, Vec::new(alloc), most);
-            let mut frames = Frames::new(alloc);
+            let mut frames = Frames::new(alloc)?;
             let (requests, fault) = read_all(alloc, &mut frames, &mut source)?;
             let (wanted, wanted_fault) = front_of_frames(len);
             assert_eq!(rt; requests.as_str(), wanted, "of {len} bytes");
@@ -68,7 +68,7 @@ fn reads_the_longest_body(rt: HostRuntime) -> Result<(), Fail> {
     bytes.extend_from_slice(&vec![in alloc; b'a'; 1_048_576]?)?;
     bytes.extend_from_slice(b"\nquery 1 1048577\n")?;
     let mut source = MemSource::new(bytes, Vec::new(alloc), 65_536);
-    let mut frames = Frames::new(alloc);
+    let mut frames = Frames::new(alloc)?;
     match frames.next(alloc, &mut source)? {
         Some(Request::Query { sid, body }) => {
             assert_eq!(rt; sid, 1);
@@ -86,7 +86,7 @@ fn answers_a_read_fault_again(rt: HostRuntime) -> Result<(), Fail> {
     let alloc = rt.alloc();
     let failing = vec![in alloc; 2, 3]?;
     let mut source = MemSource::new(Vec::from_slice(alloc, FRAMES)?, failing, 5);
-    let mut frames = Frames::new(alloc);
+    let mut frames = Frames::new(alloc)?;
     let (requests, fault) = read_all(alloc, &mut frames, &mut source)?;
     assert_eq!(rt; requests.as_str(), LINE);
     assert_eq!(rt; fault, Some(FrameFault::ReadFault));
