@@ -1,14 +1,14 @@
 -- The bodies that are taken apart are those of the forms.
-use Rattle.std.proofs.Common.{◌≡◌, ℕ, ◌+◌, ◌<◌, ◌≤◌, Bool, true, false, not, ◌&&◌, ◌||◌, cond, eqb, List, [], ◌∷◌, ◌++◌, length, Option, Some, None, refl, ap, sym, subst, ◌∙◌, arith}
+use Rattle.std.proofs.Common.{◌≡◌, ℕ, ◌<◌, ◌≤◌, Bool, true, false, ◌&&◌, ◌||◌, cond, eqb, List, [], ◌∷◌, ◌++◌, length, Option, Some, None, refl, ap, sym, subst, ◌∙◌, arith}
 use Rattle.std.specs.Prelude.{codes, nat_lt, nat_le, IfSome, IfNone}
 use Rattle.std.specs.Option.{option_map, option_and_then}
-use Rattle.std.specs.List.{list_all, AllByRecursion}
+use Rattle.std.specs.List.{list_all}
 use Rattle.std.specs.Char.{digit_value}
 use Rattle.std.specs.Str.Parse.{AllDigits, digits_value}
 use Rattle.std.proofs.lemmas.Bool.{false≢true, eqb-true}
 use Rattle.std.proofs.lemmas.Bool.Decides.{nat_tests}
 use Rattle.dg_wire.specs.Names.{starts_name, goes_on, is_dot_before, is_name_end, is_name}
-use Rattle.dg_node.specs.Bodies.{is_predicate, is_plain, is_reserved, IsNode, Declares, Sets, Asks}
+use Rattle.dg_node.specs.Bodies.{is_predicate, is_plain, IsNode, Declares, Sets, Asks}
 use Rattle.dg_node.specs.Scanning.{after_front, before_end, cut_at, is_hex, uid_of, declared_by, plain_triple, set_by, asked_by}
 use Rattle.dg_node.proofs.CutLemmas.{passed, after_front-sound, after_front-append, before_end-sound, before_end-append, cut_at-sound, cut_at-first, Lacks}
 use Rattle.dg_node.proofs.HexLemmas.{all_hex}

@@ -1,5 +1,5 @@
 -- What alters of one string predicate each declare.
-use Rattle.std.proofs.Common.{◌≡◌, ℕ, Bool, true, false, not, ◌&&◌, ◌||◌, cond, eqb, List, [], ◌∷◌, ◌++◌, Option, Some, None, refl, ap, sym, subst, ◌∙◌}
+use Rattle.std.proofs.Common.{◌≡◌, ℕ, Bool, true, false, not, ◌&&◌, ◌||◌, cond, List, [], ◌∷◌, ◌++◌, Some, refl, ap, sym, subst, ◌∙◌}
 use Rattle.std.specs.Prelude.{find, is_some, fold, map, nat_le}
 use Rattle.std.specs.List.{list_any, AllByRecursion}
 use Rattle.std.specs.Str.{bytes_eq}
@@ -8,7 +8,7 @@ use Rattle.std.proofs.lemmas.Slice.Eq.{bytes_eq-Decides}
 use Rattle.std.proofs.lemmas.List.Folds.{list_any-append}
 use Rattle.dg_values.specs.Order.{same_text}
 use Rattle.dg_node.specs.declared.machine.Declared.{Declared}
-use Rattle.dg_node.specs.Schemas.{PredDef, Alter, is_named, definition_of, is_declared, replaced, with_definition, with_definitions, after_alter, schema_at, present_schema, is_single_by, is_single}
+use Rattle.dg_node.specs.Schemas.{PredDef, is_named, is_declared, replaced, with_definition, with_definitions, after_alter, schema_at, present_schema, is_single_by, is_single}
 use Rattle.dg_node.specs.Alters.{string_definition}
 use Rattle.dg_node.specs.Plain.{alter_of, is_declared_by}
 

@@ -1,17 +1,16 @@
 -- A step is a function of the request where memory isn't wanting.
-use Rattle.std.proofs.Common.{◌≡◌, ◌≢◌, ℕ, ◌⊎◌, inl, inr, List, [], ◌∷◌, refl, ap, sym, subst, ◌∙◌}
+use Rattle.std.proofs.Common.{◌≡◌, ◌≢◌, ℕ, inl, inr, List, [], ◌∷◌, refl, ap, sym, subst, ◌∙◌}
 use Rattle.dg_wire.specs.declared.refusal.Refusal.TheVariants as refusals
 use Rattle.dg_wire.specs.declared.reply.Reply.{Reply}
 use Rattle.dg_wire.specs.declared.reply.Reply.TheVariants as replies
 use Rattle.dg_wire.specs.declared.request.Request.{Request}
 use Rattle.dg_wire.specs.declared.request.Request.TheVariants as requests
 use Rattle.dg_node.specs.Machine.{Machine, empty}
-use Rattle.dg_node.specs.Replying.{IsUnbuilt}
 use Rattle.dg_node.specs.Alters.{altered, string_definition, Alters}
-use Rattle.dg_node.specs.Transactions.{IsBuiltSession, begun, committed, Begins, Commits}
+use Rattle.dg_node.specs.Transactions.{Begins, Commits}
 use Rattle.dg_node.specs.Mutations.{mutated, text_set, Mutates}
 use Rattle.dg_node.specs.Queries.{queried, Queries}
-use Rattle.dg_node.specs.Steps.{Outcome, Step, Steps, Run, HadMemory, IsDetermined}
+use Rattle.dg_node.specs.Steps.{Outcome, Step, Steps, HadMemory, IsDetermined}
 use Rattle.dg_node.proofs.ScanLemmas.{declares_one, sets_one, asks_one}
 
 abbrev Pair : Type 0

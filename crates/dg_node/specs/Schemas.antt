@@ -1,7 +1,6 @@
 -- What is declared of predicates, and the schema at a timestamp.
-use Rattle.std.specs.Prelude.{ℕ, Bool, false, not, nat_le, if◌then◌else◌, List, [], ◌∷◌, ◌++◌, Option, Some, None, fold, map, find, is_some, codes}
+use Rattle.std.specs.Prelude.{ℕ, Bool, false, not, nat_le, if◌then◌else◌, List, [], ◌∷◌, ◌++◌, Option, Some, None, fold, map, find, is_some}
 use Rattle.dg_values.specs.declared.kind.Kind.{Kind}
-use Rattle.dg_values.specs.declared.kind.Kind.TheVariants as kinds
 use Rattle.dg_values.specs.declared.kind.Tokenizer.{Tokenizer}
 use Rattle.dg_values.specs.Order.{same_text}
 

@@ -1,4 +1,4 @@
-use Rattle.std.proofs.Common.{◌≡◌, ◌≤◌, length, sym, arith}
+use Rattle.std.proofs.Common.{sym, arith}
 use Rattle.dg_node.proofs.HexLemmas.{all_hex, hex_small}
 use Rattle.dg_node.proofs.bodies.uid_of.Goals as goal
 

@@ -1,4 +1,4 @@
-use Rattle.std.proofs.Common.{◌≡◌, ◌+◌, List, [], ◌∷◌, ◌++◌, None, refl, sym, subst}
+use Rattle.std.proofs.Common.{◌+◌, List, None, refl, sym, subst}
 use Rattle.std.specs.Prelude.{Option}
 use Rattle.dg_node.specs.declared.machine.Declared.{Declared}
 use Rattle.dg_node.specs.declared.machine.Opened.{Opened}
