@@ -184,11 +184,11 @@ module _ {K : Type 0} (cmp : K → K → Ordering) (total : IsTotalOrder cmp) wh
   at_most_each key (k ∷ keys) f = (at_most key k (f 0 k (omega arith)), at_most_each key keys (λ j d lt. f (suc j) d (omega arith)))
 
   -- the first of ascending keys is the least
-  first_least : (key : K) (keys : List K) → IsSorted cmp (key ∷ keys) → AllByRecursion (λ k. IsTrue (is_le (cmp key k))) (key ∷ keys)
+  pub first_least : (key : K) (keys : List K) → IsSorted cmp (key ∷ keys) → AllByRecursion (λ k. IsTrue (is_le (cmp key k))) (key ∷ keys)
   first_least key keys s = at_most_each key (key ∷ keys) (λ j d lt. sorted_far (λ x y. is_lt (cmp x y)) (ranks_by total (λ x. x)) (key ∷ keys) s 0 j d (omega arith) lt)
 
 -- what comes after the first of ascending keys ascends
-sorted_tail : {K : Type 0} (cmp : K → K → Ordering) (key : K) (keys : List K) → IsSorted cmp (key ∷ keys) → IsSorted cmp keys
+pub sorted_tail : {K : Type 0} (cmp : K → K → Ordering) (key : K) (keys : List K) → IsSorted cmp (key ∷ keys) → IsSorted cmp keys
 sorted_tail cmp key keys s k d low lt = let e : suc k + 1 ≡ suc (k + 1) = omega arith in let low' : 0 ≤ suc k = omega arith in let lt' : suc k + 1 < length (key ∷ keys) = omega arith in subst (λ (n : ℕ). is_lt (cmp (get_or (key ∷ keys) n d) (get_or keys k d)) ≡ false) e (s (suc k) d low' lt')
 
 -- where no commit clashes, there is no clash

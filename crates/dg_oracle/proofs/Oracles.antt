@@ -54,7 +54,7 @@ map_push f [] x = refl
 map_push f (y ∷ xs) x = ap (λ ys. f y ∷ ys) (map_push f xs x)
 
 -- none of them is above them all
-not_among : (n : ℕ) (xs : List ℕ) → AllByRecursion (λ x. x < n) xs → is_among xs n ≡ false
+pub not_among : (n : ℕ) (xs : List ℕ) → AllByRecursion (λ x. x < n) xs → is_among xs n ≡ false
 not_among n [] a = refl
 not_among n (x ∷ xs) a = both (x == n) (is_among xs n) (let lt : x < n = a.0 in grind (arith, common_steps)) (not_among n xs a.1)
   where

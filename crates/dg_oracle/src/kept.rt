@@ -1,8 +1,6 @@
 // What is left of starts and commits.
-ghost use Rattle.std.specs.Prelude.{◌≡◌};
-ghost use Rattle.dg_oracle.specs.Commits.{is_active as active_of, without, above};
-
-use crate::Committed;
+ghost use Rattle.std.specs.Prelude.{◌≡◌, filter, nat_lt};
+ghost use Rattle.dg_oracle.specs.Commits.{is_active as active_of, without};
 
 // Whether the start is one of these.
 pub fn is_active(active: &[u64], start: u64) -> bool
@@ -18,9 +16,9 @@ pub fn drop_start(active: &mut Vec<u64>, start: u64)
     active.retain(|s| *s != start);
 }
 
-// Leaves the commits above the line.
-pub fn drop_up_to<K: Drop>(commits: &mut Vec<Committed<K>>, line: u64)
-    ensures { commits.new.items ≡ above line commits.old.items }
+// Leaves the timestamps above the line.
+pub fn drop_times(times: &mut Vec<u64>, line: u64)
+    ensures { times.new.items ≡ filter (λ ts. nat_lt line ts) times.old.items }
 {
-    commits.retain(|c| c.ts() > line);
+    times.retain(|ts| *ts > line);
 }

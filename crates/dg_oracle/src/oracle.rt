@@ -6,7 +6,8 @@ ghost use Rattle.dg_oracle.specs.Commits.{IsOracle, is_active, begun, committed,
 ghost use Rattle.dg_oracle.specs.Faults.{IsFaultAt};
 ghost use Rattle.dg_oracle.specs.Verdicts.{verdict, IsVerdict, HasSameVerdicts};
 
-use crate::{Committed, OracleFault, Verdict, judging, kept};
+use crate::history::History;
+use crate::{OracleFault, Verdict, judging, kept};
 use std::alloc::{AllocError, Global};
 use std::marker::Model;
 
@@ -21,7 +22,7 @@ const FIRST_STARTS: usize = 16;
 pub struct Oracle<K: Ord> {
     next: u64,
     active: Vec<u64>,
-    commits: Vec<Committed<K>>,
+    commits: History<K>,
     line: u64,
 }
 
@@ -30,9 +31,9 @@ impl<K: Ord> Model for Oracle<K> {
 
     ghost Value = { OracleState K };
 
-    ghost view = { λ o. record { next = o.next; active = o.active.items; commits = o.commits.items; line = o.line } };
+    ghost view = { λ o. record { next = o.next; active = o.active.items; commits = o.commits; line = o.line } };
 
-    ghost invariant = { λ o. IsOracle (record { next = o.next; active = o.active.items; commits = o.commits.items; line = o.line }) };
+    ghost invariant = { λ o. IsOracle (record { next = o.next; active = o.active.items; commits = o.commits; line = o.line }) };
 }
 
 impl<K: Ord> Oracle<K> {
@@ -46,7 +47,7 @@ impl<K: Ord> Oracle<K> {
         Ok(Oracle {
             next,
             active: Vec::with_capacity(alloc, FIRST_STARTS)?,
-            commits: Vec::new(alloc),
+            commits: History::new(alloc),
             line: 0,
         })
     }
@@ -78,33 +79,7 @@ impl<K: Ord> Oracle<K> {
         ensures verdict { result ≡ verdict K.cmp self.now.commits start keys.now }
         ensures meaning { IsVerdict K.cmp self.now.commits start keys.now result }
     {
-        judging::judge(self.commits.as_slice(), start, keys)
-    }
-
-    /// Draws the commit timestamp, and ends the transaction. What is refused comes back.
-    pub fn commit(&mut self, start: u64, keys: Vec<K>) -> Result<u64, (OracleFault, Vec<K>)>
-        requires active { IsTrue (is_active self.old.active start) }
-        requires ascend { IsSorted K.cmp keys.items }
-        requires clear { verdict K.cmp self.old.commits start keys.items ≡ Verdict.Clear }
-        ensures ts { IfOk result (λ ts. ts ≡ self.old.next) }
-        ensures ok { OnOk result (self.new ≡ committed self.old start keys.items) }
-        ensures not_spent { OnOk result (self.old.next < 2 ^ 62) }
-        ensures fault { IfErr result (λ e. IsFaultAt self.old.next e.0) }
-        ensures back { IfErr result (λ e. e.1.items ≡ keys.items) }
-        ensures err { OnErr result (self.new ≡ self.old) }
-        ensures valid { IsOracle self.new }
-    {
-        let next = self.next;
-        if next >= SPENT {
-            return Err((OracleFault::TimestampsSpent { next }, keys));
-        }
-        if self.commits.reserve(1).is_err() {
-            return Err((OracleFault::OutOfMemory, keys));
-        }
-        self.commits.push_reserved(Committed::new(next, keys));
-        kept::drop_start(&mut self.active, start);
-        self.next = next + 1;
-        Ok(next)
+        judging::judge(&self.commits, start, keys)
     }
 
     /// Ends a transaction, and says whether it was active.
@@ -147,6 +122,33 @@ impl<K: Ord> Oracle<K> {
 }
 
 impl<K: Ord + Drop> Oracle<K> {
+    /// Draws the commit timestamp, and ends the transaction. What is refused comes back.
+    pub fn commit(&mut self, start: u64, keys: Vec<K>) -> Result<u64, (OracleFault, Vec<K>)>
+        requires active { IsTrue (is_active self.old.active start) }
+        requires ascend { IsSorted K.cmp keys.items }
+        requires clear { verdict K.cmp self.old.commits start keys.items ≡ Verdict.Clear }
+        ensures ts { IfOk result (λ ts. ts ≡ self.old.next) }
+        ensures ok { OnOk result (self.new ≡ committed self.old start keys.items) }
+        ensures not_spent { OnOk result (self.old.next < 2 ^ 62) }
+        ensures fault { IfErr result (λ e. IsFaultAt self.old.next e.0) }
+        ensures back { IfErr result (λ e. e.1.items ≡ keys.items) }
+        ensures err { OnErr result (self.new ≡ self.old) }
+        ensures valid { IsOracle self.new }
+    {
+        let next = self.next;
+        if next >= SPENT {
+            return Err((OracleFault::TimestampsSpent { next }, keys));
+        }
+        match self.commits.push(next, keys) {
+            Err(keys) => Err((OracleFault::OutOfMemory, keys)),
+            Ok(()) => {
+                kept::drop_start(&mut self.active, start);
+                self.next = next + 1;
+                Ok(next)
+            }
+        }
+    }
+
     /// Forgets the keys of the commits at or below the line, which no active transaction can meet.
     pub fn purge(&mut self, line: u64)
         requires { line ≤ below_first self.old.active self.old.next }
@@ -154,7 +156,7 @@ impl<K: Ord + Drop> Oracle<K> {
         ensures same_verdicts { HasSameVerdicts K.cmp self.new.line self.new.commits self.old.commits }
         ensures valid { IsOracle self.new }
     {
-        kept::drop_up_to(&mut self.commits, line);
+        self.commits.drop_up_to(line);
         self.line = self.line.max(line);
     }
 }

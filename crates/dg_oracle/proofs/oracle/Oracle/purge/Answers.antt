@@ -13,7 +13,7 @@ invariant_of-self g c =
 pub returns-clause-same_verdicts : goal.returns-clause-same_verdicts
 returns-clause-same_verdicts g c start keys le =
     let above_line : c.args.line ≤ c.max-self-inside.result = omega (arith, c.max-self-inside.ensures) in
-    rw c.drop_up_to.ensures (subst (λ (o : OracleState g.row.K.Denot). verdict g.K.Ord.cmp (above c.args.line c.self.inside.commits.items) start keys ≡ verdict g.K.Ord.cmp o.commits start keys) c.self.view_is (same_verdicts g.K.Ord.cmp c.args.line c.max-self-inside.result c.self.inside.commits.items above_line start keys le))
+    rw c.drop_up_to.ensures (subst (λ (o : OracleState g.row.K.Denot). verdict g.K.Ord.cmp (above c.args.line c.self.inside.commits) start keys ≡ verdict g.K.Ord.cmp o.commits start keys) c.self.view_is (same_verdicts g.K.Ord.cmp c.args.line c.max-self-inside.result c.self.inside.commits above_line start keys le))
 
 pub returns-clause-valid : goal.returns-clause-valid
 returns-clause-valid g c =
