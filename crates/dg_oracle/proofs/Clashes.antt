@@ -1,5 +1,5 @@
 -- The last commit above a start that has a key, and the verdict on keys.
-use Rattle.std.proofs.Common.{◌≡◌, ℕ, zero, suc, ◌+◌, ◌-◌, ◌<◌, ◌≤◌, Bool, true, false, List, [], ◌∷◌, ◌++◌, length, get_or, take, drop, map, refl, ap, subst, sym, ◌∙◌, arith}
+use Rattle.std.proofs.Common.{◌≡◌, ℕ, suc, ◌+◌, ◌-◌, ◌<◌, ◌≤◌, Bool, true, false, List, [], ◌∷◌, length, get_or, drop, map, refl, ap, subst, sym, ◌∙◌, arith}
 use Rattle.std.specs.Prelude.{◌==◌, ◌&&◌, ◌||◌, Option, Some, None, if◌then◌else◌, IsTrue, nat_lt, cond}
 use Rattle.std.specs.declared.cmp.Ordering.{Ordering}
 use Rattle.std.specs.declared.cmp.Ordering.TheVariants.{Less, Equal, Greater}
@@ -9,68 +9,21 @@ use Rattle.std.specs.List.Sorted.{IsSorted}
 use Rattle.std.proofs.lemmas.List.Sorted.{sorted_far}
 use Rattle.std.proofs.lemmas.List.MinMax.{ranks_by}
 use Rattle.std.specs.List.{AllByRecursion, list_any}
-use Rattle.std.proofs.lemmas.List.{take_more}
 use Rattle.std.proofs.Math.Seq.{drop-cons}
 use Rattle.std.proofs.lemmas.Grind.{common_steps}
 use Rattle.dg_oracle.specs.declared.verdict.Verdict.{Verdict}
 use Rattle.dg_oracle.specs.declared.verdict.Verdict.TheVariants.{Clear, Conflict}
 use Rattle.dg_oracle.specs.Commits.{Commit, Ascends, ts_of, above}
-use Rattle.dg_oracle.specs.Verdicts.{has_key, clashes, has_clash, HasNoClash, HasSameVerdicts, IsLastClash, IsConflictAt, IsVerdict, or_else, last_clash, conflict_or, verdict_from, verdict}
-
--- the first n, of which c is the last
-pub front_and : {X : Type 0} (xs : List X) (n : ℕ) (c : X) → 0 < n → n ≤ length xs → c ≡ get_or xs (n - 1) c → take n xs ≡ take (n - 1) xs ++ c ∷ []
-front_and xs n c pos le is =
-    let e : n ≡ n - 1 + 1 = omega arith in
-    ap (λ k. take k xs) e ∙ (take_more xs (n - 1) c (omega arith) ∙ ap (λ x. take (n - 1) xs ++ x ∷ []) (sym is))
-
--- the first n ascend
-pub ascends_take : {K : Type 0} (low n : ℕ) (cs : List (Commit K)) → Ascends low (map ts_of cs) → Ascends low (map ts_of (take n cs))
-ascends_take low zero cs a = tt
-ascends_take low (suc n) [] a = tt
-ascends_take low (suc n) (c ∷ cs) a = (a.0, ascends_take c.ts n cs a.1)
+use Rattle.dg_oracle.specs.Verdicts.{clashes, has_clash, HasNoClash, HasSameVerdicts, IsLastClash, IsConflictAt, IsVerdict, or_else, last_clash, conflict_or, verdict_from, verdict}
 
 module _ {K : Type 0} (cmp : K → K → Ordering) (start : ℕ) (key : K) where
   -- what one commit gives
   abbrev clash : Commit K → Option ℕ
   clash c = if clashes cmp start key c then Some c.ts else None
 
-  -- one more at the end
-  pub last_clash_push : (cs : List (Commit K)) (c : Commit K) → last_clash cmp (cs ++ c ∷ []) start key ≡ or_else (clash c) (last_clash cmp cs start key)
-  last_clash_push [] c = elim (clash c) as (λ o. or_else None o ≡ or_else o None) [ None ↦ refl | Some ts ↦ refl ]
-  last_clash_push (d ∷ cs) c =
-      ap (λ o. or_else o (clash d)) (last_clash_push cs c) ∙ elim (clash c) as (λ o. or_else (or_else o (last_clash cmp cs start key)) (clash d) ≡ or_else o (or_else (last_clash cmp cs start key) (clash d))) [ None ↦ refl | Some ts ↦ refl ]
-
   -- a commit at or below the start gives none
   low_none : (c : Commit K) → c.ts ≤ start → clash c ≡ None
   low_none c le = grind (arith, common_steps)
-
-  -- nor do those before it
-  pub none_up_to : (low : ℕ) (cs : List (Commit K)) (c : Commit K) → c.ts ≤ start → Ascends low (map ts_of (cs ++ c ∷ [])) → last_clash cmp (cs ++ c ∷ []) start key ≡ None
-  none_up_to low [] c le a = rw (low_none c le) refl
-  none_up_to low (d ∷ cs) c le a =
-      let e = none_up_to d.ts cs c le a.1 in
-      let f : d.ts ≤ start = omega (arith, ascends_last d.ts cs c a.1) in
-      rw (e, low_none d f) refl
-    where
-      ascends_last : (low : ℕ) (cs : List (Commit K)) (c : Commit K) → Ascends low (map ts_of (cs ++ c ∷ [])) → low < c.ts
-      ascends_last low [] c a = a.0
-      ascends_last low (d ∷ cs) c a = omega (arith, a.0, ascends_last d.ts cs c a.1)
-
-  pub step_none : (cs : List (Commit K)) (n : ℕ) (c : Commit K) → Ascends 0 (map ts_of cs) → 0 < n → n ≤ length cs → c ≡ get_or cs (n - 1) c → c.ts ≤ start → last_clash cmp (take n cs) start key ≡ None
-  step_none cs n c a pos le is below =
-      let e = front_and cs n c pos le is in
-      let b : Ascends 0 (map ts_of (take (n - 1) cs ++ c ∷ [])) = subst (λ (ds : List (Commit K)). Ascends 0 (map ts_of ds)) e (ascends_take 0 n cs a) in
-      rw e (none_up_to 0 (take (n - 1) cs) c below b)
-
-  pub step_some : (cs : List (Commit K)) (n : ℕ) (c : Commit K) → 0 < n → n ≤ length cs → c ≡ get_or cs (n - 1) c → start < c.ts → has_key cmp c.keys key ≡ true → last_clash cmp (take n cs) start key ≡ Some c.ts
-  step_some cs n c pos le is over has =
-      let s : clash c ≡ Some c.ts = grind (arith, common_steps) in
-      rw (front_and cs n c pos le is, last_clash_push (take (n - 1) cs) c, s) refl
-
-  pub step_on : (cs : List (Commit K)) (n : ℕ) (c : Commit K) → 0 < n → n ≤ length cs → c ≡ get_or cs (n - 1) c → has_key cmp c.keys key ≡ false → last_clash cmp (take n cs) start key ≡ last_clash cmp (take (n - 1) cs) start key
-  step_on cs n c pos le is has =
-      let s : clash c ≡ None = grind (arith, common_steps) in
-      rw (front_and cs n c pos le is, last_clash_push (take (n - 1) cs) c, s) refl
 
   -- no commit clashes where there is no last one
   pub none_is : (cs : List (Commit K)) → last_clash cmp cs start key ≡ None → HasNoClash cmp cs start key

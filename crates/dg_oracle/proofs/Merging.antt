@@ -1,6 +1,6 @@
 -- Two lists of marks that ascend become one.
-use Rattle.std.proofs.Common.{◌≡◌, ℕ, zero, suc, ◌+◌, ◌-◌, ◌<◌, ◌≤◌, Bool, true, false, cond, List, [], ◌∷◌, ◌++◌, length, map, reverse, refl, ap, subst, sym, ◌∙◌, inl, inr, append_assoc, length-append, arith}
-use Rattle.std.specs.Prelude.{◌==◌, ◌||◌, ◌⊎◌, nat_lt, filter, Option, Some, None}
+use Rattle.std.proofs.Common.{◌≡◌, ℕ, suc, ◌+◌, ◌-◌, Bool, true, false, cond, List, [], ◌∷◌, ◌++◌, length, map, reverse, refl, ap, subst, sym, ◌∙◌, inl, inr, append_assoc, length-append, arith}
+use Rattle.std.specs.Prelude.{◌==◌, ◌⊎◌, filter, Option, Some, None}
 use Rattle.std.specs.List.{AllByRecursion, slice_get}
 use Rattle.std.specs.Option.{option_to_list}
 use Rattle.std.specs.List.Sorted.{IsSorted}
@@ -10,12 +10,11 @@ use Rattle.std.specs.Cmp.{IsTotalOrder}
 use Rattle.std.specs.Ordering.{is_le, is_gt, nat_cmp, ordering_reverse, ordering_then}
 use Rattle.std.proofs.lemmas.Cmp.{nat_cmp_total, tied_itself, upto}
 use Rattle.std.proofs.lemmas.List.{reverse-append}
-use Rattle.std.proofs.lemmas.Grind.{common_steps}
 use Rattle.dg_oracle.specs.declared.mark.Mark.{Mark}
-use Rattle.dg_oracle.specs.Histories.{mark_cmp, marked_at, IsUpTo, Ascending, keys_at, marks_above, IsApart, last_of, is_after, Takes, TakesGreater}
+use Rattle.dg_oracle.specs.Histories.{mark_cmp, marked_at, IsUpTo, Ascending, keys_at, IsApart, last_of, is_after, TakesGreater}
 use Rattle.dg_oracle.proofs.Clashes.{first_least, sorted_tail}
 use Rattle.dg_oracle.proofs.Marks.{keys_append, front_empty}
-use Rattle.dg_oracle.proofs.Oracles.{all_filter, all_push}
+use Rattle.dg_oracle.proofs.Oracles.{all_filter}
 use Rattle.dg_oracle.proofs.Searches.{marks_total}
 
 -- the last is the one at the last place

@@ -1,7 +1,7 @@
 -- Commits as they are seen, through the marks that are kept of them.
-use Rattle.std.proofs.Common.{◌≡◌, ℕ, zero, suc, ◌+◌, ◌-◌, ◌<◌, ◌≤◌, Bool, true, false, cond, List, [], ◌∷◌, ◌++◌, length, map, max, take, drop, get_or, filter, refl, ap, subst, sym, ◌∙◌, inl, inr, append_assoc, arith}
+use Rattle.std.proofs.Common.{◌≡◌, ℕ, ◌+◌, ◌<◌, ◌≤◌, Bool, true, false, cond, List, [], ◌∷◌, ◌++◌, length, map, max, take, drop, get_or, filter, refl, ap, subst, sym, ◌∙◌, inl, inr, append_assoc, arith}
 use Rattle.std.specs.Prelude.{◌==◌, ◌||◌, ◌&&◌, ◌⊎◌, nat_lt, Option, Some, None, if◌then◌else◌}
-use Rattle.std.specs.List.{AllByRecursion, list_any}
+use Rattle.std.specs.List.{AllByRecursion}
 use Rattle.std.specs.declared.cmp.Ordering.{Ordering}
 use Rattle.std.proofs.lemmas.Grind.{common_steps}
 use Rattle.std.proofs.lemmas.List.{take_more}
@@ -10,9 +10,9 @@ use Rattle.std.proofs.lemmas.List.Elements.{filter-append}
 use Rattle.dg_oracle.specs.declared.mark.Mark.{Mark}
 use Rattle.dg_oracle.specs.Commits.{Commit, Ascends, ts_of, is_among, above}
 use Rattle.dg_oracle.specs.Verdicts.{clashes, or_else, last_clash}
-use Rattle.dg_oracle.specs.Histories.{Layer, marked_at, keys_at, IsApart, HasSameKeys, marks_of, IsLayered, commit_at, commits_of, IsHistory, marks_above, cut_above, is_marked, IsLast, later_of}
-use Rattle.dg_oracle.proofs.Marks.{keys_append, front_empty, back_empty, keys_of_commit, keys_elsewhere, keys_above, none_above_line, none_below_line, not_there, marked_append, not_marked, other_number, same_number}
-use Rattle.dg_oracle.proofs.Oracles.{map_push, not_among}
+use Rattle.dg_oracle.specs.Histories.{Layer, marked_at, keys_at, IsApart, HasSameKeys, marks_of, IsLayered, commit_at, commits_of, marks_above, cut_above, is_marked, IsLast, later_of}
+use Rattle.dg_oracle.proofs.Marks.{keys_append, front_empty, back_empty, keys_of_commit, keys_elsewhere, keys_above, none_above_line, none_below_line, not_there, marked_append, not_marked, same_number}
+use Rattle.dg_oracle.proofs.Oracles.{map_push}
 
 -- runs one after another
 pub marks_append : {K : Type 0} (rs ss : List (Layer K)) → marks_of (rs ++ ss) ≡ marks_of rs ++ marks_of ss

@@ -1,9 +1,10 @@
 // The keys of commits, kept so that the last commit of a key is found fast.
-ghost use Rattle.std.specs.Prelude.{◌≡◌, ◌+◌, ◌<◌, ◌≤◌, ◌++◌, ◌∷◌, [], length, map, IfSome, IfNone, OnOk, OnErr, IfErr};
+ghost use Rattle.std.specs.Prelude.{◌≡◌, List, ◌+◌, ◌<◌, ◌≤◌, ◌++◌, ◌∷◌, [], length, map, IfSome, IfNone, OnOk, OnErr, IfErr};
 ghost use Rattle.std.specs.List.{AllByRecursion};
 ghost use Rattle.std.specs.List.Sorted.{IsSorted};
 ghost use Rattle.std.specs.Vec.{vec_len, vec_capacity};
-ghost use Rattle.dg_oracle.specs.Commits.{Ascends, ts_of, above};
+ghost use Rattle.dg_oracle.specs.Commits.{Commit, Ascends, ts_of, above};
+ghost use Rattle.dg_oracle.specs.Histories.{IsHistory, IsLast, IsLayered, HasSameKeys, commits_of, marks_of, cut_above, later_of};
 ghost use Rattle.dg_oracle.specs.Verdicts.{last_clash};
 
 use crate::kept;
@@ -12,8 +13,9 @@ use crate::run::Run;
 use std::alloc::Global;
 use std::marker::Model;
 
-// Commits in the order of their timestamps. Their keys stand in runs: a run has the marks of some commits in a row,
-// ascending by key, and a commit that is added takes up the runs before it that are no longer than its own.
+// Commits in the order of their timestamps. Their keys stand in runs: a run has the marks of some commits in a
+// row, ascending by key. The run of a new commit takes up the runs before it as long as they aren't more than twice
+// as long, so there are at most about as many runs as the number of marks has binary digits.
 #[derive(Drop)]
 pub struct History<K: Ord> {
     times: Vec<u64>,
@@ -21,10 +23,6 @@ pub struct History<K: Ord> {
 }
 
 impl<K: Ord> Model for History<K> {
-    ghost use Rattle.std.specs.Prelude.{List};
-    ghost use Rattle.dg_oracle.specs.Commits.{Commit};
-    ghost use Rattle.dg_oracle.specs.Histories.{commits_of, marks_of, IsHistory};
-
     ghost Value = { List (Commit K) };
 
     ghost view = { λ h. commits_of (marks_of h.runs.items) h.times.items };
@@ -82,8 +80,7 @@ impl<K: Ord + Drop> History<K> {
     }
 }
 
-ghost use Rattle.dg_oracle.specs.Histories.{IsLast, marks_of, IsLayered, HasSameKeys, cut_above, later_of};
-
+// The timestamp of the last mark above the start that has the key, in all runs.
 fn last_in<K: Ord>(runs: &[Run<K>], start: u64, key: &K) -> Option<u64>
     ensures { IsLast K.cmp (marks_of runs.now) start key.now result }
 {
@@ -94,17 +91,18 @@ fn last_in<K: Ord>(runs: &[Run<K>], start: u64, key: &K) -> Option<u64>
     last
 }
 
-fn later(a: Option<u64>, b: Option<u64>) -> Option<u64>
-    ensures { result ≡ later_of a b }
+// The later of two timestamps, where there are any.
+fn later(one: Option<u64>, other: Option<u64>) -> Option<u64>
+    ensures { result ≡ later_of one other }
 {
-    match (a, b) {
-        (Some(a), Some(b)) => Some(a.max(b)),
-        (Some(a), None) => Some(a),
-        (None, b) => b,
+    match (one, other) {
+        (Some(one), Some(other)) => Some(one.max(other)),
+        (Some(one), None) => Some(one),
+        (None, other) => other,
     }
 }
 
-// Adds a run, which takes up the last runs as long as they are no longer.
+// Adds a run, which takes up the last runs as long as they aren't more than twice as long.
 fn settle<K: Ord + Drop>(runs: &mut Vec<Run<K>>, mut run: Run<K>)
     requires room { vec_len runs.old < vec_capacity runs.old }
     requires layered { IsLayered (runs.old.items ++ run ∷ []) }
@@ -117,24 +115,25 @@ fn settle<K: Ord + Drop>(runs: &mut Vec<Run<K>>, mut run: Run<K>)
     runs.push_reserved(run);
 }
 
-// Takes the last run, if it is no longer than this, with room for its marks and so many more.
-fn take_short<K: Ord + Drop>(runs: &mut Vec<Run<K>>, most: usize) -> Option<(Run<K>, Vec<Mark<K>>)>
+// Takes the last run, if it isn't more than twice as long as so many marks more, with room for all of them.
+fn take_short<K: Ord + Drop>(runs: &mut Vec<Run<K>>, more: usize) -> Option<(Run<K>, Vec<Mark<K>>)>
     ensures run { IfSome result (λ r. runs.old.items ≡ runs.new.items ++ r.0 ∷ []) }
     ensures empty { IfSome result (λ r. r.1.items ≡ []) }
-    ensures fits { IfSome result (λ r. length r.0.marks + most ≤ vec_capacity r.1) }
+    ensures fits { IfSome result (λ r. length r.0.marks + more ≤ vec_capacity r.1) }
     ensures none { IfNone result (runs.new.items ≡ runs.old.items) }
     ensures capacity { vec_capacity runs.new ≡ vec_capacity runs.old }
 {
     let len = runs.last()?.len();
-    if len > most {
+    if len / 2 > more {
         return None;
     }
-    let total = len.checked_add(most)?;
+    let total = len.checked_add(more)?;
     let room = Vec::with_capacity(*runs.allocator(), total).ok()?;
     let run = runs.pop()?;
     Some((run, room))
 }
 
+// Leaves the marks above the line.
 fn drop_in<K: Ord + Drop>(runs: &mut Vec<Run<K>>, line: u64)
     ensures { runs.new.items ≡ map (cut_above line) runs.old.items }
 {

@@ -11,13 +11,14 @@ use crate::{OracleFault, Verdict, judging, kept};
 use std::alloc::{AllocError, Global};
 use std::marker::Model;
 
-/// The least number that is no timestamp.
-pub const SPENT: u64 = 1 << 62;
+// The least number that is no timestamp.
+const SPENT: u64 = 1 << 62;
 
 // Room for so many starts is had at once.
 const FIRST_STARTS: usize = 16;
 
-/// Draws start and commit timestamps from one counter, and judges the keys of commits.
+/// Draws start and commit timestamps from one counter, and judges the keys of commits. Timestamps are 1 to
+/// 2^62 - 1. The purge line is 0 at first and never falls; starts and commits that are kept are above it.
 #[derive(Drop)]
 pub struct Oracle<K: Ord> {
     next: u64,
@@ -37,7 +38,8 @@ impl<K: Ord> Model for Oracle<K> {
 }
 
 impl<K: Ord> Oracle<K> {
-    /// No transaction is active, and nothing was committed.
+    /// An oracle whose first timestamp is `next`, with no active transaction and no commit. The error is want of
+    /// memory.
     pub fn starting_at(alloc: Global, next: u64) -> Result<Self, AllocError>
         requires first { 1 ≤ next }
         requires below { next ≤ 2 ^ 62 }
@@ -52,7 +54,7 @@ impl<K: Ord> Oracle<K> {
         })
     }
 
-    /// Draws a start.
+    /// Draws a start, and its transaction is active. After an error the oracle is as before.
     pub fn begin(&mut self) -> Result<u64, OracleFault>
         ensures start { IfOk result (λ start. start ≡ self.old.next) }
         ensures ok { OnOk result (self.new ≡ begun self.old) }
@@ -72,7 +74,8 @@ impl<K: Ord> Oracle<K> {
         Ok(next)
     }
 
-    /// The verdict on the keys of a transaction with this start.
+    /// The verdict on the ascending keys of a transaction with this start, over all commits above it. It takes no
+    /// memory.
     pub fn judge(&self, start: u64, keys: &[K]) -> Verdict
         requires ascend { IsSorted K.cmp keys.now }
         requires line { self.now.line ≤ start }
@@ -82,7 +85,7 @@ impl<K: Ord> Oracle<K> {
         judging::judge(&self.commits, start, keys)
     }
 
-    /// Ends a transaction, and says whether it was active.
+    /// Ends a transaction, and says whether it was active. It takes no memory.
     pub fn end(&mut self, start: u64) -> bool
         ensures was_active { result ≡ is_active self.old.active start }
         ensures ended { self.new ≡ ended self.old start }
@@ -94,7 +97,7 @@ impl<K: Ord> Oracle<K> {
         was_active
     }
 
-    /// Draws two timestamps.
+    /// Draws two timestamps, or none where not both are left. It takes no memory.
     pub fn draw_two(&mut self) -> Option<(u64, u64)>
         ensures some { IfSome result (λ drawn. (drawn.0 ≡ self.old.next) × (drawn.1 ≡ self.old.next + 1) × (self.new ≡ two_drawn self.old)) }
         ensures not_spent { IfSome result (λ _. self.old.next < 2 ^ 62 - 1) }
@@ -109,7 +112,8 @@ impl<K: Ord> Oracle<K> {
         Some((next, next + 1))
     }
 
-    /// The line that a purge may take now: below the least active start, or else the last timestamp.
+    /// The line that a purge may take now: the number below the least active start, or, where no transaction is
+    /// active, the last timestamp that was drawn, taken as the next one less 1.
     pub fn line(&self) -> u64
         ensures line { result ≡ below_first self.now.active self.now.next }
         ensures valid { IsOracle self.now }
@@ -122,7 +126,8 @@ impl<K: Ord> Oracle<K> {
 }
 
 impl<K: Ord + Drop> Oracle<K> {
-    /// Draws the commit timestamp, and ends the transaction. What is refused comes back.
+    /// Draws the commit timestamp of a transaction whose keys are clear, keeps the keys, and ends the transaction.
+    /// An error hands the keys back and leaves the oracle as before, the transaction active.
     pub fn commit(&mut self, start: u64, keys: Vec<K>) -> Result<u64, (OracleFault, Vec<K>)>
         requires active { IsTrue (is_active self.old.active start) }
         requires ascend { IsSorted K.cmp keys.items }
@@ -149,7 +154,8 @@ impl<K: Ord + Drop> Oracle<K> {
         }
     }
 
-    /// Forgets the keys of the commits at or below the line, which no active transaction can meet.
+    /// Raises the purge line to this one, where it is below, and forgets the commits at or below it, which no active
+    /// transaction can meet: from the line on, verdicts are as before. It takes no memory.
     pub fn purge(&mut self, line: u64)
         requires { line ≤ below_first self.old.active self.old.next }
         ensures purged { self.new ≡ purged self.old line }

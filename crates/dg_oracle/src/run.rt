@@ -3,6 +3,7 @@ ghost use Rattle.std.specs.Prelude.{◌≡◌, ℕ, ◌+◌, ◌<◌, ◌≤◌,
 ghost use Rattle.std.specs.List.Sorted.{IsSorted, IsPartitionPoint};
 ghost use Rattle.std.specs.Ordering.{is_le};
 ghost use Rattle.std.specs.Vec.{vec_capacity};
+ghost use Rattle.dg_oracle.specs.Histories.{Layer, IsRun, IsLast, IsApart, Ascending, TakesGreater, marked_at, marks_above, cut_above, keys_at, is_after, last_of};
 
 use crate::mark::Mark;
 use std::marker::Model;
@@ -15,8 +16,6 @@ pub struct Run<K: Ord> {
 }
 
 impl<K: Ord> Model for Run<K> {
-    ghost use Rattle.dg_oracle.specs.Histories.{Layer, IsRun};
-
     ghost Value = { Layer K };
 
     ghost view = { λ r. record { newest = r.newest; marks = r.marks.items } };
@@ -25,8 +24,6 @@ impl<K: Ord> Model for Run<K> {
 }
 
 impl<K: Ord> Run<K> {
-    ghost use Rattle.dg_oracle.specs.Histories.{IsLast};
-
     pub fn len(&self) -> usize
         ensures { result ≡ length self.now.marks }
     {
@@ -45,8 +42,6 @@ impl<K: Ord> Run<K> {
 }
 
 impl<K: Ord + Drop> Run<K> {
-    ghost use Rattle.dg_oracle.specs.Histories.{marked_at, cut_above, IsApart, keys_at, Layer};
-
     // The marks of one commit, put into room that was taken for them.
     pub fn of_commit(room: Vec<Mark<K>>, ts: u64, keys: Vec<K>) -> Self
         requires empty { room.items ≡ [] }
@@ -81,8 +76,6 @@ impl<K: Ord + Drop> Run<K> {
     }
 }
 
-ghost use Rattle.dg_oracle.specs.Histories.{Ascending, IsLast, IsApart, TakesGreater, marks_above, marked_at, keys_at, is_after, last_of};
-
 // How many marks have a key that is not above this one.
 fn up_to<K: Ord>(marks: &[Mark<K>], key: &K) -> usize
     requires { Ascending K.cmp marks.now }
@@ -92,6 +85,7 @@ fn up_to<K: Ord>(marks: &[Mark<K>], key: &K) -> usize
     marks.partition_point(|m| m.key.cmp(key).is_le())
 }
 
+// The timestamp of the last mark above the start that has the key.
 fn last_in<K: Ord>(marks: &[Mark<K>], start: u64, key: &K) -> Option<u64>
     requires { Ascending K.cmp marks.now }
     ensures { IsLast K.cmp marks.now start key.now result }
@@ -108,6 +102,7 @@ fn last_in<K: Ord>(marks: &[Mark<K>], start: u64, key: &K) -> Option<u64>
     }
 }
 
+// The keys of a commit, marked with its timestamp.
 fn marks_at<K: Drop>(room: Vec<Mark<K>>, ts: u64, keys: Vec<K>) -> Vec<Mark<K>>
     requires empty { room.items ≡ [] }
     requires fits { length keys.items ≤ vec_capacity room }
@@ -164,6 +159,7 @@ fn is_older_greater<K: Ord>(older: &[Mark<K>], newer: &[Mark<K>]) -> bool
     }
 }
 
+// Leaves the marks above the line.
 fn drop_marks<K: Drop>(marks: &mut Vec<Mark<K>>, line: u64)
     ensures { marks.new.items ≡ marks_above line marks.old.items }
 {

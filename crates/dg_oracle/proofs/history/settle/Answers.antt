@@ -1,5 +1,5 @@
-use Rattle.std.proofs.Common.{◌≡◌, ◌<◌, ◌++◌, ◌∷◌, [], ◌∙◌, ap, length, length-append, subst, List, arith}
-use Rattle.dg_oracle.specs.Histories.{Layer, marks_of, IsLayered, HasSameKeys, keys_at}
+use Rattle.std.proofs.Common.{◌++◌, ◌∷◌, [], ◌∙◌, ap, length, length-append, subst, List, arith}
+use Rattle.dg_oracle.specs.Histories.{Layer, marks_of, IsLayered, HasSameKeys}
 use Rattle.dg_oracle.proofs.Views.{apart_last, merged_keys, merged_layered}
 use Rattle.dg_oracle.proofs.history.settle.Goals as goal
 

@@ -1,4 +1,4 @@
-use Rattle.std.proofs.Common.{◌≡◌, ◌<◌, ◌++◌, ◌∷◌, [], length}
+use Rattle.std.proofs.Common.{◌<◌, ◌++◌, ◌∷◌, []}
 use Rattle.std.specs.Vec.{vec_len, vec_capacity}
 use Rattle.dg_oracle.specs.Histories.{marks_of, IsLayered, HasSameKeys}
 use Rattle.dg_oracle.proofs.history.settle.Given as goal

@@ -1,4 +1,4 @@
-use Rattle.std.proofs.Common.{◌≡◌, ◌<◌, ◌≤◌, ◌-◌, ℕ, get_or, true, false, subst, sym, ◌∙◌, ap, arith}
+use Rattle.std.proofs.Common.{◌≡◌, ◌≤◌, ◌-◌, ℕ, get_or, true, false, subst, sym, ◌∙◌, ap, arith}
 use Rattle.std.specs.Ordering.{is_eq, is_le}
 use Rattle.std.specs.List.Sorted.{IsPartitionPoint}
 use Rattle.dg_oracle.specs.declared.mark.Mark.{Mark}

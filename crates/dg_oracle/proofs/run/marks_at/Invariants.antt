@@ -1,4 +1,4 @@
-use Rattle.std.proofs.Common.{◌≡◌, ◌+◌, ◌≤◌, length, map}
+use Rattle.std.proofs.Common.{◌≡◌, map}
 use Rattle.std.specs.Vec.{vec_capacity}
 use Rattle.dg_oracle.specs.Histories.{marked_at}
 use Rattle.dg_oracle.proofs.run.marks_at.Given as goal

@@ -1,8 +1,5 @@
-use Rattle.std.proofs.Common.{◌≡◌, ◌+◌, ◌≤◌, ◌∷◌, [], length, length-append, reverse, sym, ◌∙◌, ap, subst, arith}
-use Rattle.std.specs.Prelude.{Some, None}
-use Rattle.std.specs.Vec.{vec_capacity}
-use Rattle.dg_oracle.specs.Histories.{TakesGreater}
-use Rattle.dg_oracle.proofs.Merging.{IsMerging, merge_begins, merge_goes_on, merge_ends, one_fewer, reverse_push}
+use Rattle.std.proofs.Common.{◌≡◌, ◌∷◌, [], length, length-append, reverse, ◌∙◌, ap, arith}
+use Rattle.dg_oracle.proofs.Merging.{merge_begins, merge_goes_on, one_fewer, reverse_push}
 use Rattle.dg_oracle.proofs.run.merge.Goals as goal
 
 pub loop-mark-init : goal.loop-mark-init

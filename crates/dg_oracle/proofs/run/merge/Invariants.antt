@@ -1,4 +1,4 @@
-use Rattle.std.proofs.Common.{◌≡◌, ◌+◌, ◌≤◌, length, reverse}
+use Rattle.std.proofs.Common.{◌+◌, ◌≤◌, length, reverse}
 use Rattle.std.specs.Vec.{vec_capacity}
 use Rattle.dg_oracle.proofs.Merging.{IsMerging}
 use Rattle.dg_oracle.proofs.run.merge.Given as goal

@@ -1,4 +1,4 @@
-use Rattle.std.proofs.Common.{◌≡◌, ◌∙◌, ◌+◌, ap, sym, subst, List, [], true, false, arith}
+use Rattle.std.proofs.Common.{◌≡◌, ◌∙◌, ◌+◌, sym, subst, true, false, arith}
 use Rattle.std.specs.Prelude.{Option, None, MatchOption}
 use Rattle.std.specs.Vec.{vec_len}
 use Rattle.dg_oracle.specs.declared.mark.Mark.{Mark}

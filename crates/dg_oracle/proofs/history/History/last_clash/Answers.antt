@@ -1,7 +1,7 @@
-use Rattle.std.proofs.Common.{◌≡◌, ◌∙◌, List, ap, map, subst, sym}
-use Rattle.dg_oracle.specs.Commits.{Commit, Ascends, ts_of}
+use Rattle.std.proofs.Common.{◌∙◌, List, ap, subst, sym}
+use Rattle.dg_oracle.specs.Commits.{Commit, Ascends}
 use Rattle.dg_oracle.specs.Verdicts.{last_clash}
-use Rattle.dg_oracle.specs.Histories.{Layer, marks_of, commits_of, IsLast}
+use Rattle.dg_oracle.specs.Histories.{Layer, marks_of, IsLast}
 use Rattle.dg_oracle.proofs.Views.{last_seen, times_seen}
 use Rattle.dg_oracle.proofs.history.History.last_clash.Goals as goal
 

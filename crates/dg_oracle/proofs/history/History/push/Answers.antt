@@ -1,7 +1,7 @@
-use Rattle.std.proofs.Common.{◌≡◌, ◌<◌, ◌++◌, ◌∷◌, [], ◌∙◌, ℕ, List, false, ap, map, subst, sym}
+use Rattle.std.proofs.Common.{◌<◌, ◌++◌, ◌∷◌, [], ◌∙◌, List, ap, map, sym}
 use Rattle.std.specs.List.{AllByRecursion}
-use Rattle.dg_oracle.specs.Commits.{Commit, ts_of, is_among}
-use Rattle.dg_oracle.specs.Histories.{Layer, marks_of, commits_of, IsLayered, HasSameKeys, keys_at, marked_at}
+use Rattle.dg_oracle.specs.Commits.{Commit}
+use Rattle.dg_oracle.specs.Histories.{marks_of, HasSameKeys, marked_at}
 use Rattle.dg_oracle.proofs.Oracles.{not_among}
 use Rattle.dg_oracle.proofs.Views.{layered_push, pushed_known, pushed_seen, times_seen}
 use Rattle.dg_oracle.proofs.history.History.push.Goals as goal
