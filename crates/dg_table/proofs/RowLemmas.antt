@@ -1,10 +1,11 @@
 -- What a table answers whose rows share neither names nor codes.
-use Rattle.std.proofs.Common.{◌≡◌, ◌≢◌, ℕ, ◌<◌, ◌⊎◌, List, length, get_or, Option, Some, None, refl, sym, ◌∙◌, ap, subst, inl, inr}
+use Rattle.std.proofs.Common.{◌≡◌, ◌≢◌, ◌↔◌, ℕ, ◌<◌, ◌⊎◌, List, length, get_or, Option, Some, None, refl, sym, ◌∙◌, ap, subst, inl, inr}
+use Rattle.std.specs.Option.{IsNone}
 use Rattle.std.specs.List.{All, AllWithin, Contains}
-use Rattle.std.proofs.lemmas.Bool.{cases_order}
+use Rattle.std.proofs.lemmas.Bool.{cases_order, true≢false}
 use Rattle.std.proofs.lemmas.List.{get_or_default, get_or-map, length-map}
 use Rattle.std.proofs.lemmas.List.Elements.{All-contains, All-map, All-from_all_within}
-use Rattle.dg_table.specs.Rows.{Row, Share, rows_of, IsOneToOne, IsCodeOf, IsNameOf}
+use Rattle.dg_table.specs.Rows.{Row, Share, rows_of, IsOneToOne, IsCodeOf, IsNameOf, AreInverse}
 
 pub Share-sym : (a b : Row) → Share a b → Share b a
 Share-sym a b (inl same) = inl (sym same)
@@ -56,6 +57,17 @@ pub name_from_none : (rows : List Row) (code : ℕ) → All (λ row. row.1 ≢ c
 name_from_none rows code none name =
     ((λ same. absurd (None-Some name same)),
       λ there. absurd (All-contains (λ row. row.1 ≢ code) rows (name, code) none there refl))
+
+pub inverse : (rows : List Row) → IsOneToOne rows → AreInverse rows
+inverse rows one name code =
+    ((λ found. name_from_row rows (name, code) one ((found code).0 refl)),
+      λ found. code_from_row rows (name, code) one ((found name).0 refl))
+
+-- an answer is None exactly where nothing is what is asked for
+pub none_answered : {X : Type 0} (P : X → Type 0) (answer : Option X) → ((x : X) → (answer ≡ Some x) ↔ P x)
+    → IsNone answer ↔ ((x : X) → ¬ (P x))
+none_answered P None each = ((λ _ x there. None-Some x ((each x).1 there)), λ _. refl)
+none_answered P (Some y) each = ((λ no. absurd (true≢false no)), λ none. absurd (none y ((each y).0 refl)))
 
 -- a row that was read is among the rows
 row_contained : {S : Type 0} (bytes : S → List ℕ) (xs : List (S × ℕ)) (i : ℕ) (d : S × ℕ) → i < length xs

@@ -31,3 +31,7 @@ IsCodeOf rows name answer = (code : ℕ) → (answer ≡ Some code) ↔ Contains
 -- the answer is the name of the row of that code, and none where no row has it
 abbrev pub IsNameOf : List Row → ℕ → Option (List ℕ) → Type 0
 IsNameOf rows code answer = (name : List ℕ) → (answer ≡ Some name) ↔ Contains rows (name, code)
+
+-- a name has a code exactly where that code has that name
+abbrev pub AreInverse : List Row → Type 0
+AreInverse rows = (name : List ℕ) (code : ℕ) → IsCodeOf rows name (Some code) ↔ IsNameOf rows code (Some name)

@@ -3,6 +3,8 @@
 
 mod name;
 mod table;
+#[cfg(test)]
+mod tests;
 
 pub use name::Name;
 pub use table::Table;

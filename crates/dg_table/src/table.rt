@@ -1,7 +1,7 @@
 // A table of names and codes.
-ghost use Rattle.std.specs.Prelude.{◌≡◌, ◌≤◌, ◌↔◌, IsSome, IsNone, IfSome, is_some, option_map};
-ghost use Rattle.std.specs.List.{list_any};
-ghost use Rattle.dg_table.specs.Rows.{rows_of, IsOneToOne, HasDouble, IsCodeOf, IsNameOf};
+ghost use Rattle.std.specs.Prelude.{◌≡◌, ◌≤◌, ◌↔◌, ℕ, List, IsSome, IsNone, IfSome, is_some, option_map};
+ghost use Rattle.std.specs.List.{Contains, list_any};
+ghost use Rattle.dg_table.specs.Rows.{rows_of, IsOneToOne, HasDouble, IsCodeOf, IsNameOf, AreInverse};
 ghost use Rattle.dg_table.specs.Tests.{share, is_one_to_one};
 
 use crate::Name;
@@ -46,7 +46,9 @@ impl<const N: usize, S: Name> Table<N, S> {
 
     /// The code of that name, or None exactly where no row has it.
     pub fn find(&self, name: &str) -> Option<u16>
-        ensures { IsCodeOf self.now name.now result }
+        ensures answer { IsCodeOf self.now name.now result }
+        ensures none { IsNone result ↔ ((code : ℕ) → ¬ Contains self.now (name.now, code)) }
+        ensures inverse { AreInverse self.now }
     {
         for row in &self.rows {
             if row.0.as_str() == name {
@@ -58,7 +60,9 @@ impl<const N: usize, S: Name> Table<N, S> {
 
     /// The name of that code, or None exactly where no row has it.
     pub fn name_of(&self, code: u16) -> Option<S>
-        ensures { IsNameOf self.now code (option_map S.bytes result) }
+        ensures answer { IsNameOf self.now code (option_map S.bytes result) }
+        ensures none { IsNone result ↔ ((name : List ℕ) → ¬ Contains self.now (name, code)) }
+        ensures inverse { AreInverse self.now }
     {
         for row in &self.rows {
             if row.1 == code {
