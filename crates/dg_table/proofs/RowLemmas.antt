@@ -1,10 +1,17 @@
 -- What a table answers whose rows share neither names nor codes.
-use Rattle.std.proofs.Common.{◌≡◌, ◌≢◌, ◌↔◌, ℕ, ◌<◌, ◌⊎◌, List, length, get_or, Option, Some, None, refl, sym, ◌∙◌, ap, subst, inl, inr}
+use Rattle.std.proofs.Common.{◌≡◌, ◌≢◌, ◌↔◌, ◌==◌, ℕ, ◌<◌, ◌≤◌, ◌⊎◌, Bool, false, List, length, get_or, Option, Some, None, refl, sym, ◌∙◌, ap, subst, inl, inr, arith}
 use Rattle.std.specs.Option.{IsNone}
-use Rattle.std.specs.List.{All, AllWithin, Contains}
+use Rattle.std.specs.List.{All, Contains, position, position_or_len}
+use Rattle.std.specs.Bool.{Decides}
+use Rattle.std.specs.Str.{bytes_eq}
 use Rattle.std.proofs.lemmas.Bool.{cases_order, true≢false}
 use Rattle.std.proofs.lemmas.List.{get_or_default, get_or-map, length-map}
-use Rattle.std.proofs.lemmas.List.Elements.{All-contains, All-map, All-from_all_within}
+use Rattle.std.proofs.lemmas.List.Elements.{All-contains, All-map, All-weaker}
+use Rattle.std.proofs.lemmas.List.Quantifiers.{position-Some}
+use Rattle.std.proofs.lemmas.List.Sums.{fails_before_first}
+use Rattle.std.proofs.lemmas.Bool.Decides.{Decides-eqb, not_from_Decides}
+use Rattle.std.proofs.lemmas.Grind.{common_steps}
+use Rattle.std.proofs.lemmas.Slice.Eq.{bytes_eq-Decides}
 use Rattle.dg_table.specs.Rows.{Row, Share, rows_of, IsOneToOne, IsCodeOf, IsNameOf, AreInverse}
 
 pub Share-sym : (a b : Row) → Share a b → Share b a
@@ -25,9 +32,9 @@ apart rows a b i j one before within a_at b_at shared =
 pub one_row : (rows : List Row) (a b : Row) → IsOneToOne rows → Contains rows a → Contains rows b → Share a b → a ≡ b
 one_row rows a b one (i, i_in, a_at) (j, j_in, b_at) shared =
     elim (cases_order i j) [
-      inl same ↦ sym a_at ∙ get_or_default rows i a b i_in ∙ ap (λ k. get_or rows k b) same ∙ b_at
+      | inl same ↦ sym a_at ∙ get_or_default rows i a b i_in ∙ ap (λ k. get_or rows k b) same ∙ b_at
       | inr order ↦ elim order [
-        inl before ↦ absurd (apart rows a b i j one before j_in a_at b_at shared)
+        | inl before ↦ absurd (apart rows a b i j one before j_in a_at b_at shared)
         | inr after ↦ absurd (apart rows b a j i one after i_in b_at a_at (Share-sym a b shared))
       ]
     ]
@@ -39,29 +46,34 @@ None-Some : {X : Type 0} (x : X) → None ≡ Some x → ⊥
 None-Some x e = cc
 
 pub code_from_row : (rows : List Row) (row : Row) → IsOneToOne rows → Contains rows row → IsCodeOf rows row.0 (Some row.1)
-code_from_row rows row one here code =
-    ((λ same. subst (λ (n : ℕ). Contains rows (row.0, n)) (Some-same row.1 code same) here),
-      λ there. ap Some (ap (λ r. r.1) (one_row rows row (row.0, code) one here there (inl refl))))
+code_from_row rows row one here code = (
+  (λ same. subst (λ (n : ℕ). Contains rows (row.0, n)) (Some-same row.1 code same) here),
+  λ there. ap Some (ap (λ r. r.1) (one_row rows row (row.0, code) one here there (inl refl))),
+)
 
 pub name_from_row : (rows : List Row) (row : Row) → IsOneToOne rows → Contains rows row → IsNameOf rows row.1 (Some row.0)
-name_from_row rows row one here name =
-    ((λ same. subst (λ (n : List ℕ). Contains rows (n, row.1)) (Some-same row.0 name same) here),
-      λ there. ap Some (ap (λ r. r.0) (one_row rows row (name, row.1) one here there (inr refl))))
+name_from_row rows row one here name = (
+  (λ same. subst (λ (n : List ℕ). Contains rows (n, row.1)) (Some-same row.0 name same) here),
+  λ there. ap Some (ap (λ r. r.0) (one_row rows row (name, row.1) one here there (inr refl))),
+)
 
 pub code_from_none : (rows : List Row) (name : List ℕ) → All (λ row. row.0 ≢ name) rows → IsCodeOf rows name None
-code_from_none rows name none code =
-    ((λ same. absurd (None-Some code same)),
-      λ there. absurd (All-contains (λ row. row.0 ≢ name) rows (name, code) none there refl))
+code_from_none rows name none code = (
+  (λ same. absurd (None-Some code same)),
+  λ there. absurd (All-contains (λ row. row.0 ≢ name) rows (name, code) none there refl),
+)
 
 pub name_from_none : (rows : List Row) (code : ℕ) → All (λ row. row.1 ≢ code) rows → IsNameOf rows code None
-name_from_none rows code none name =
-    ((λ same. absurd (None-Some name same)),
-      λ there. absurd (All-contains (λ row. row.1 ≢ code) rows (name, code) none there refl))
+name_from_none rows code none name = (
+  (λ same. absurd (None-Some name same)),
+  λ there. absurd (All-contains (λ row. row.1 ≢ code) rows (name, code) none there refl),
+)
 
 pub inverse : (rows : List Row) → IsOneToOne rows → AreInverse rows
-inverse rows one name code =
-    ((λ found. name_from_row rows (name, code) one ((found code).0 refl)),
-      λ found. code_from_row rows (name, code) one ((found name).0 refl))
+inverse rows one name code = (
+  (λ found. name_from_row rows (name, code) one ((found code).0 refl)),
+  λ found. code_from_row rows (name, code) one ((found name).0 refl),
+)
 
 -- an answer is None exactly where nothing is what is asked for
 pub none_answered : {X : Type 0} (P : X → Type 0) (answer : Option X) → ((x : X) → (answer ≡ Some x) ↔ P x)
@@ -75,33 +87,43 @@ row_contained : {S : Type 0} (bytes : S → List ℕ) (xs : List (S × ℕ)) (i 
 row_contained bytes xs i d within =
     (i, rw length-map within, get_or-map (λ row. (bytes row.0, row.1)) xs i d _ within)
 
-pub code_from_read : {S : Type 0} (bytes : S → List ℕ) (xs : List (S × ℕ)) (rows : List Row) (i : ℕ) (d : S × ℕ) (name : List ℕ)
-    → rows_of bytes xs ≡ rows → IsOneToOne (rows_of bytes xs) → i < length xs → bytes (get_or xs i d).0 ≡ name
-    → IsCodeOf rows name (Some (get_or xs i d).1)
-code_from_read bytes xs rows i d name seen one within found =
-    rw (← seen, ← found) (code_from_row (rows_of bytes xs) _ one (row_contained bytes xs i d within))
+-- a test fails at each element where it passes first at none
+fails_everywhere : {X : Type 0} (p : X → Bool) (xs : List X) → position p xs ≡ None → All (λ x. p x ≡ false) xs
+fails_everywhere p xs none k d within =
+    let past : length xs ≤ position_or_len p xs = grind (arith, common_steps) in
+    fails_before_first p xs k d (omega arith)
 
-pub name_from_read : {S : Type 0} (bytes : S → List ℕ) (xs : List (S × ℕ)) (rows : List Row) (i : ℕ) (d : S × ℕ) (code : ℕ)
-    → rows_of bytes xs ≡ rows → IsOneToOne (rows_of bytes xs) → i < length xs → (get_or xs i d).1 ≡ code
-    → IsNameOf rows code (Some (bytes (get_or xs i d).0))
-name_from_read bytes xs rows i d code seen one within found =
-    rw (← seen, ← found) (name_from_row (rows_of bytes xs) _ one (row_contained bytes xs i d within))
+-- and so what the test decides holds of no row
+rows_all : {S : Type 0} (bytes : S → List ℕ) (P : Row → Type 0) (p : S × ℕ → Bool) (xs : List (S × ℕ))
+    → ((x : S × ℕ) → Decides (p x) (P (bytes x.0, x.1))) → position p xs ≡ None → All (λ row. ¬ (P row)) (rows_of bytes xs)
+rows_all bytes P p xs decides none =
+    All-map (λ row. ¬ (P row)) (λ x. (bytes x.0, x.1)) xs
+    (All-weaker (λ x. p x ≡ false) (λ x. ¬ (P (bytes x.0, x.1))) (λ x fails. not_from_Decides (p x) (decides x) fails) xs
+    (fails_everywhere p xs none))
 
--- what holds of each that was read holds of each row
-rows_all : {S : Type 0} (P : Row → Type 0) (bytes : S → List ℕ) (xs : List (S × ℕ)) (n : ℕ)
-    → length xs ≡ n → AllWithin (λ row. P (bytes row.0, row.1)) xs 0 n → All P (rows_of bytes xs)
-rows_all P bytes xs n len each =
-    All-map P (λ row. (bytes row.0, row.1)) xs
-      (All-from_all_within (λ row. P (bytes row.0, row.1)) xs (rw len each))
+module _ {S : Type 0} (bytes : S → List ℕ) (xs : List (S × ℕ)) (rows : List Row) where
+  pub code_at_place : (i : ℕ) (d : S × ℕ) (name : List ℕ) → rows_of bytes xs ≡ rows → IsOneToOne (rows_of bytes xs)
+      → position (λ row. bytes_eq (bytes row.0) name) xs ≡ Some i → IsCodeOf rows name (Some (get_or xs i d).1)
+  code_at_place i d name seen one place =
+      let first = position-Some (λ row. bytes_eq (bytes row.0) name) xs i d place in
+      let found : bytes (get_or xs i d).0 ≡ name = (bytes_eq-Decides (bytes (get_or xs i d).0) name).0 first.1 in
+      rw (← seen, ← found) (code_from_row (rows_of bytes xs) _ one (row_contained bytes xs i d first.0))
 
-pub code_from_unread : {S : Type 0} (bytes : S → List ℕ) (xs : List (S × ℕ)) (rows : List Row) (n i : ℕ) (name : List ℕ)
-    → rows_of bytes xs ≡ rows → length xs ≡ n → i ≡ n → AllWithin (λ row. bytes row.0 ≢ name) xs 0 i
-    → IsCodeOf rows name None
-code_from_unread bytes xs rows n i name seen len end each =
-    rw (← seen) (code_from_none (rows_of bytes xs) name (rows_all (λ row. row.0 ≢ name) bytes xs i (len ∙ sym end) each))
+  pub name_at_place : (i : ℕ) (d : S × ℕ) (code : ℕ) → rows_of bytes xs ≡ rows → IsOneToOne (rows_of bytes xs)
+      → position (λ row. row.1 == code) xs ≡ Some i → IsNameOf rows code (Some (bytes (get_or xs i d).0))
+  name_at_place i d code seen one place =
+      let first = position-Some (λ row. row.1 == code) xs i d place in
+      let found : (get_or xs i d).1 ≡ code = (Decides-eqb (get_or xs i d).1 code).0 first.1 in
+      rw (← seen, ← found) (name_from_row (rows_of bytes xs) _ one (row_contained bytes xs i d first.0))
 
-pub name_from_unread : {S : Type 0} (bytes : S → List ℕ) (xs : List (S × ℕ)) (rows : List Row) (n i : ℕ) (code : ℕ)
-    → rows_of bytes xs ≡ rows → length xs ≡ n → i ≡ n → AllWithin (λ row. row.1 ≢ code) xs 0 i
-    → IsNameOf rows code None
-name_from_unread bytes xs rows n i code seen len end each =
-    rw (← seen) (name_from_none (rows_of bytes xs) code (rows_all (λ row. row.1 ≢ code) bytes xs i (len ∙ sym end) each))
+  pub code_at_no_place : (name : List ℕ) → rows_of bytes xs ≡ rows
+      → position (λ row. bytes_eq (bytes row.0) name) xs ≡ None → IsCodeOf rows name None
+  code_at_no_place name seen none =
+      rw (← seen) (code_from_none (rows_of bytes xs) name
+      (rows_all bytes (λ row. row.0 ≡ name) (λ row. bytes_eq (bytes row.0) name) xs (λ x. bytes_eq-Decides (bytes x.0) name) none))
+
+  pub name_at_no_place : (code : ℕ) → rows_of bytes xs ≡ rows
+      → position (λ row. row.1 == code) xs ≡ None → IsNameOf rows code None
+  name_at_no_place code seen none =
+      rw (← seen) (name_from_none (rows_of bytes xs) code
+      (rows_all bytes (λ row. row.1 ≡ code) (λ row. row.1 == code) xs (λ x. Decides-eqb x.1 code) none))

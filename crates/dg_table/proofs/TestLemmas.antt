@@ -1,12 +1,13 @@
 -- The test of a whole table, and the rule that it stands for at each row.
 use Rattle.std.proofs.Common.{◌≡◌, ℕ, ◌+◌, ◌-◌, ◌<◌, ◌⊎◌, ◌||◌, Bool, true, false, not, ◌&&◌, List, [], ◌∷◌, length, get_or, take, drop, suc, refl, sym, ◌∙◌, ap, map, inl, inr, arith, add-one, drop-cons, length-drop}
 use Rattle.std.specs.Bool.{Decides}
-use Rattle.std.specs.List.{All, Any, list_any, list_all, Contains}
+use Rattle.std.specs.List.{All, Any, AllPass, Contains, list_any}
 use Rattle.std.specs.Str.{bytes_eq}
-use Rattle.std.proofs.lemmas.Bool.{cases_Bool}
+use Rattle.std.proofs.lemmas.Bool.{and_parts, cases_Bool}
 use Rattle.std.proofs.lemmas.Bool.Decides.{Decides-or, Decides-eqb}
 use Rattle.std.proofs.lemmas.Slice.Eq.{bytes_eq-Decides}
 use Rattle.std.proofs.lemmas.List.{get_or_default, take_all}
+use Rattle.std.proofs.lemmas.List.Elements.{All-contains}
 use Rattle.std.proofs.lemmas.List.Folds.{Any-from_list_any, list_any_at}
 use Rattle.std.proofs.lemmas.List.Kept.{AllPairs-cons}
 use Rattle.dg_table.specs.Rows.{Row, Share, rows_of, IsOneToOne, HasDouble}
@@ -24,22 +25,18 @@ list_any-map p f (y ∷ ys) = ap (λ rest. p (f y) || rest) (list_any-map p f ys
 none_shares : (row : Row) (rows : List Row) → list_any (λ later. share later row) rows ≡ false → All (λ later. ¬ (Share row later)) rows
 none_shares row rows none k d within shared =
     let found : list_any (λ later. share later row) rows ≡ true =
-      list_any_at (λ later. share later row) rows k d within ((share-Decides _ row).1 (Share-sym row _ shared)) in
+    list_any_at (λ later. share later row) rows k d within ((share-Decides _ row).1 (Share-sym row _ shared)) in
     cc
 
 not_true : (b : Bool) → not b ≡ true → b ≡ false
 not_true true e = cc
 not_true false e = refl
 
-and_parts : (a b : Bool) → (a && b) ≡ true → (a ≡ true) × (b ≡ true)
-and_parts true b e = (refl, e)
-and_parts false b e = cc
-
 pub IsOneToOne-from_test : (rows : List Row) → is_one_to_one rows ≡ true → IsOneToOne rows
 IsOneToOne-from_test [] e = λ i j d before within. absurd (omega arith)
 IsOneToOne-from_test (row ∷ rows) e =
     let parts : (not (list_any (λ later. share later row) rows) ≡ true) × (is_one_to_one rows ≡ true) =
-      and_parts _ _ e in
+    and_parts _ _ e in
     AllPairs-cons (λ a b. ¬ (Share a b)) row rows (none_shares row rows (not_true _ parts.0)) (IsOneToOne-from_test rows parts.1)
 
 -- a double of later rows is one further on
@@ -48,15 +45,19 @@ HasDouble-cons row rows (i, j, before, within, shared) = (suc i, suc j, omega ar
 
 -- a row that shares with a later one is a double
 HasDouble-found : (row : Row) (rows : List Row) → Any (λ later. share later row ≡ true) rows → HasDouble (row ∷ rows)
-HasDouble-found row rows (k, other, within, at, passes) =
-    (0, suc k, omega arith, omega arith,
-      λ d. Share-sym _ row (Share-along _ _ _ _ (sym at ∙ get_or_default rows k other d within) refl ((share-Decides other row).0 passes)))
+HasDouble-found row rows (k, other, within, at, passes) = (
+  0,
+  suc k,
+  omega arith,
+  omega arith,
+  λ d. Share-sym _ row (Share-along _ _ _ _ (sym at ∙ get_or_default rows k other d within) refl ((share-Decides other row).0 passes)),
+)
 
 pub HasDouble-from_test : (rows : List Row) → is_one_to_one rows ≡ false → HasDouble rows
 HasDouble-from_test [] e = cc
 HasDouble-from_test (row ∷ rows) e =
     elim (cases_Bool (list_any (λ later. share later row) rows)) [
-      inl found ↦ HasDouble-found row rows (Any-from_list_any (λ later. share later row) rows found)
+      | inl found ↦ HasDouble-found row rows (Any-from_list_any (λ later. share later row) rows found)
       | inr none ↦ HasDouble-cons row rows (HasDouble-from_test rows (rw none at e))
     ]
 
@@ -70,7 +71,12 @@ pub is_one_to_one-drop : {S : Type 0} (bytes : S → List ℕ) (xs : List (S × 
     → is_one_to_one (rows_of bytes (drop i xs)) ≡ (not found && is_one_to_one (rows_of bytes (drop (i + 1) xs)))
 is_one_to_one-drop bytes xs i x name found within at called seen =
     let rest : take (length xs - (i + 1)) (drop (i + 1) xs) ≡ drop (i + 1) xs =
-      take_all (length xs - (i + 1)) (drop (i + 1) xs) (omega (arith, length-drop (i + 1) xs)) in
+    take_all (length xs - (i + 1)) (drop (i + 1) xs) (omega (arith, length-drop (i + 1) xs)) in
     rw (seen, rest, called, add-one, drop-cons xs i x, ← at)
-      (ap (λ any. not any && is_one_to_one (rows_of bytes (drop (suc i) xs)))
-        (list_any-map (λ later. share later (bytes x.0, x.1)) (λ row. (bytes row.0, row.1)) (drop (suc i) xs)))
+    (ap (λ any. not any && is_one_to_one (rows_of bytes (drop (suc i) xs)))
+    (list_any-map (λ later. share later (bytes x.0, x.1)) (λ row. (bytes row.0, row.1)) (drop (suc i) xs)))
+
+-- a test that each row of a whole table passes is a rule at each row
+pub at_each_row : (test : Row → Bool) (rows : List Row) (name : List ℕ) (code : ℕ) → AllPass test rows
+    → Contains rows (name, code) → test (name, code) ≡ true
+at_each_row test rows name code each there = All-contains (λ row. test row ≡ true) rows (name, code) each there

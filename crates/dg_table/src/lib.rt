@@ -9,7 +9,7 @@ mod tests;
 pub use name::Name;
 pub use table::Table;
 
-/// The array of rows of a table, as `rows! { "zero" => 0, "one" => 1 }`.
+/// The array of rows of a table: `rows! { "zero" => 0, "one" => 1 }`.
 #[macro_export]
 macro_rules! rows {
     ($($name:expr => $code:expr),* $(,)?) => { [$(($name, $code)),*] };

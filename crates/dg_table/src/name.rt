@@ -1,8 +1,11 @@
 // Names of rows.
 ghost use Rattle.std.specs.Prelude.{◌≡◌, ℕ, List};
 
-/// A text that a row of a table is named by.
+/// What a row is named by: a text that is free to copy.
+///
+/// The tables of this repository are named by texts that are written out, `&'static str`.
 pub trait Name: Copy {
+    // The bytes of the text.
     ghost bytes: { Self → List ℕ };
 
     /// The text.

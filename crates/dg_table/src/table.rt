@@ -1,6 +1,7 @@
 // A table of names and codes.
-ghost use Rattle.std.specs.Prelude.{◌≡◌, ◌≤◌, ◌↔◌, ℕ, List, IsSome, IsNone, IfSome, is_some, option_map};
-ghost use Rattle.std.specs.List.{Contains, list_any};
+ghost use Rattle.std.specs.Prelude.{◌≡◌, ◌≤◌, ◌↔◌, ◌==◌, ℕ, List, IsSome, IsNone, IfSome, is_some, option_map};
+ghost use Rattle.std.specs.List.{Contains, list_any, position};
+ghost use Rattle.std.specs.Str.{bytes_eq};
 ghost use Rattle.dg_table.specs.Rows.{rows_of, IsOneToOne, HasDouble, IsCodeOf, IsNameOf, AreInverse};
 ghost use Rattle.dg_table.specs.Tests.{share, is_one_to_one};
 
@@ -9,7 +10,11 @@ use std::marker::Model;
 
 /// Rows of a name and a code, in which no two names and no two codes are equal.
 ///
-/// Contracts see the rows in order, each as the bytes of its name and its code.
+/// Contracts see the rows in order, each as the bytes of its name and its code. No call takes memory.
+///
+/// A look-up reads the rows in turn and compares names by their bytes: tables have at most some
+/// dozens of rows, and keep them in the order in which they are written, which is neither that of
+/// the names nor that of the codes, so halving would need a second array in another order.
 #[derive(Debug, Drop)]
 pub struct Table<const N: usize, S: Name = &'static str> {
     rows: [(S, u16); N],
@@ -27,7 +32,9 @@ impl<const N: usize, S: Name> Model for Table<N, S> {
 }
 
 impl<const N: usize, S: Name> Table<N, S> {
-    /// A table of these rows, or None exactly where two of them have one name or one code.
+    /// The table of these rows, or None exactly where two of them have one name or one code.
+    ///
+    /// It compares each two rows.
     pub fn new(rows: [(S, u16); N]) -> Option<Table<N, S>>
         requires { N ≤ 1000 }
         ensures rows { IfSome result (λ table. table ≡ rows_of S.bytes rows) }
@@ -50,12 +57,8 @@ impl<const N: usize, S: Name> Table<N, S> {
         ensures none { IsNone result ↔ ((code : ℕ) → ¬ Contains self.now (name.now, code)) }
         ensures inverse { AreInverse self.now }
     {
-        for row in &self.rows {
-            if row.0.as_str() == name {
-                return Some(row.1);
-            }
-        }
-        None
+        let place = place_of_name(&self.rows, name)?;
+        Some(self.rows[place].1)
     }
 
     /// The name of that code, or None exactly where no row has it.
@@ -64,12 +67,8 @@ impl<const N: usize, S: Name> Table<N, S> {
         ensures none { IsNone result ↔ ((name : List ℕ) → ¬ Contains self.now (name, code)) }
         ensures inverse { AreInverse self.now }
     {
-        for row in &self.rows {
-            if row.1 == code {
-                return Some(row.0);
-            }
-        }
-        None
+        let place = place_of_code(&self.rows, code)?;
+        Some(self.rows[place].0)
     }
 }
 
@@ -91,4 +90,18 @@ fn has_either<S: Name>(rows: &[(S, u16)], name: &str, code: u16) -> bool
 {
     rows.iter()
         .any(|row| row.0.as_str() == name || row.1 == code)
+}
+
+// The place of the first row of that name.
+fn place_of_name<S: Name>(rows: &[(S, u16)], name: &str) -> Option<usize>
+    ensures { result ≡ position (λ row. bytes_eq (S.bytes row.0) name.now) rows.now }
+{
+    rows.iter().position(|row| row.0.as_str() == name)
+}
+
+// The place of the first row of that code.
+fn place_of_code<S: Name>(rows: &[(S, u16)], code: u16) -> Option<usize>
+    ensures { result ≡ position (λ row. row.1 == code) rows.now }
+{
+    rows.iter().position(|row| row.1 == code)
 }

@@ -1,29 +1,27 @@
-use Rattle.std.proofs.Common.{ℕ, List, subst, sym, ◌∙◌, arith}
+use Rattle.std.proofs.Common.{ℕ, None, sym, ◌∙◌, subst}
 use Rattle.std.specs.List.{Contains}
-use Rattle.dg_table.specs.Rows.{AreInverse}
-use Rattle.std.proofs.lemmas.Slice.Eq.{bytes_eq-Decides}
-use Rattle.dg_table.proofs.RowLemmas.{code_from_read, code_from_unread, none_answered, inverse}
+use Rattle.dg_table.specs.Rows.{IsCodeOf, AreInverse}
+use Rattle.dg_table.proofs.RowLemmas.{code_at_place, code_at_no_place, none_answered, inverse}
 use Rattle.dg_table.proofs.table.Table.find.Goals as goal
 
-pub returns-then-eq-clause-answer : goal.returns-then-eq-clause-answer
-returns-then-eq-clause-answer g c =
-    code_from_read g.S.Name.bytes c.self.inside.rows _ c.loop-row.row-index c.row-item.result _ c.self.view_is c.self.invariant (omega arith)
-      (sym c.as_str.ensures ∙ (bytes_eq-Decides _ _).0 (sym c.eq.ensures ∙ c.if-eq.true))
+pub returns-in_err-place : goal.returns-in_err-place
+returns-in_err-place g c =
+    let answer : IsCodeOf c.args.self.now c.args.name.now None =
+    code_at_no_place g.S.Name.bytes c.self.inside.rows _ _ c.self.view_is (sym c.place_of_name.ensures ∙ c.in_err-place.was) in
+    rw c.from_residual.ensures
+    (record {
+      answer = answer;
+      none = none_answered (λ (code : ℕ). Contains c.args.self.now (c.args.name.now, code)) None answer;
+      inverse = subst AreInverse c.self.view_is (inverse _ c.self.invariant);
+    })
 
-pub returns-clause-answer : goal.returns-clause-answer
-returns-clause-answer g c =
-    code_from_unread g.S.Name.bytes c.self.inside.rows _ g.row.N c.loop-row.row-index _ c.self.view_is c.self.told (omega arith) c.loop-row.invariant
-
-pub returns-then-eq-clause-none : goal.returns-then-eq-clause-none
-returns-then-eq-clause-none g c =
-    none_answered (λ (code : ℕ). Contains c.args.self.now (c.args.name.now, code)) _ (returns-then-eq-clause-answer g c)
-
-pub returns-clause-none : goal.returns-clause-none
-returns-clause-none g c =
-    none_answered (λ (code : ℕ). Contains c.args.self.now (c.args.name.now, code)) _ (returns-clause-answer g c)
-
-pub returns-then-eq-clause-inverse : goal.returns-then-eq-clause-inverse
-returns-then-eq-clause-inverse g c = subst AreInverse c.self.view_is (inverse _ c.self.invariant)
-
-pub returns-clause-inverse : goal.returns-clause-inverse
-returns-clause-inverse g c = subst AreInverse c.self.view_is (inverse _ c.self.invariant)
+pub returns : goal.returns
+returns g c =
+    let answer =
+    code_at_place g.S.Name.bytes c.self.inside.rows c.args.self.now c.in_ok-place.place c.index-self-place.result c.args.name.now c.self.view_is c.self.invariant
+    (sym c.place_of_name.ensures ∙ c.in_ok-place.was) in
+    record {
+      answer = answer;
+      none = none_answered (λ (code : ℕ). Contains c.args.self.now (c.args.name.now, code)) _ answer;
+      inverse = subst AreInverse c.self.view_is (inverse _ c.self.invariant);
+    }

@@ -11,14 +11,16 @@ returns-then-is_one_to_one-clause-some g c =
     ((λ _. IsOneToOne-from_test _ (sym c.is_one_to_one.ensures ∙ c.if-is_one_to_one.true)), λ _. refl)
 
 pub returns-then-is_one_to_one-clause-none : goal.returns-then-is_one_to_one-clause-none
-returns-then-is_one_to_one-clause-none g c =
-    ((λ no. absurd (true≢false no)),
-      λ double. absurd (not_both _ (IsOneToOne-from_test _ (sym c.is_one_to_one.ensures ∙ c.if-is_one_to_one.true)) double))
+returns-then-is_one_to_one-clause-none g c = (
+  (λ no. absurd (true≢false no)),
+  λ double. absurd (not_both _ (IsOneToOne-from_test _ (sym c.is_one_to_one.ensures ∙ c.if-is_one_to_one.true)) double),
+)
 
 pub returns-else-is_one_to_one-clause-some : goal.returns-else-is_one_to_one-clause-some
-returns-else-is_one_to_one-clause-some g c =
-    ((λ no. absurd (false≢true no)),
-      λ one. absurd (not_both _ one (HasDouble-from_test _ (sym c.is_one_to_one.ensures ∙ c.if-is_one_to_one.false))))
+returns-else-is_one_to_one-clause-some g c = (
+  (λ no. absurd (false≢true no)),
+  λ one. absurd (not_both _ one (HasDouble-from_test _ (sym c.is_one_to_one.ensures ∙ c.if-is_one_to_one.false))),
+)
 
 pub returns-else-is_one_to_one-clause-none : goal.returns-else-is_one_to_one-clause-none
 returns-else-is_one_to_one-clause-none g c =
