@@ -1,5 +1,5 @@
 -- What a table answers whose rows share neither names nor codes.
-use Rattle.std.proofs.Common.{◌≡◌, ◌≢◌, ◌↔◌, ◌==◌, ℕ, ◌<◌, ◌≤◌, ◌⊎◌, Bool, false, List, length, get_or, Option, Some, None, refl, sym, ◌∙◌, ap, subst, inl, inr, arith}
+use Rattle.std.proofs.Common.{◌≡◌, ◌≢◌, ◌↔◌, ◌==◌, ℕ, ◌<◌, ◌≤◌, Bool, false, List, length, get_or, Option, Some, None, refl, sym, ◌∙◌, ap, subst, inl, inr, arith}
 use Rattle.std.specs.Option.{IsNone}
 use Rattle.std.specs.List.{All, Contains, position, position_or_len}
 use Rattle.std.specs.Bool.{Decides}

@@ -1,8 +1,7 @@
 -- The test of a whole table, and the rule that it stands for at each row.
-use Rattle.std.proofs.Common.{◌≡◌, ℕ, ◌+◌, ◌-◌, ◌<◌, ◌⊎◌, ◌||◌, Bool, true, false, not, ◌&&◌, List, [], ◌∷◌, length, get_or, take, drop, suc, refl, sym, ◌∙◌, ap, map, inl, inr, arith, add-one, drop-cons, length-drop}
+use Rattle.std.proofs.Common.{◌≡◌, ℕ, ◌+◌, ◌-◌, ◌<◌, ◌||◌, Bool, true, false, not, ◌&&◌, List, [], ◌∷◌, length, get_or, take, drop, suc, refl, sym, ◌∙◌, ap, map, inl, inr, arith, add-one, drop-cons, length-drop}
 use Rattle.std.specs.Bool.{Decides}
 use Rattle.std.specs.List.{All, Any, AllPass, Contains, list_any}
-use Rattle.std.specs.Str.{bytes_eq}
 use Rattle.std.proofs.lemmas.Bool.{and_parts, cases_Bool}
 use Rattle.std.proofs.lemmas.Bool.Decides.{Decides-or, Decides-eqb}
 use Rattle.std.proofs.lemmas.Slice.Eq.{bytes_eq-Decides}
