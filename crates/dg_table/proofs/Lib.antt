@@ -1,0 +1,3 @@
+-- What the proofs of tables share.
+pub mod RowLemmas
+pub mod TestLemmas

@@ -1,0 +1,16 @@
+//! Tables of names and codes, for what is looked up by a name that comes from outside and printed back by its code.
+#![tactic(auto)]
+
+mod name;
+mod table;
+#[cfg(test)]
+mod tests;
+
+pub use name::Name;
+pub use table::Table;
+
+/// The array of rows of a table: `rows! { "zero" => 0, "one" => 1 }`.
+#[macro_export]
+macro_rules! rows {
+    ($($name:expr => $code:expr),* $(,)?) => { [$(($name, $code)),*] };
+}
