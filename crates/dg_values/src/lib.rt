@@ -1,18 +1,30 @@
-//! Values of predicates, and the small types of text and list that the other crates keep in their own types.
+//! Values of predicates: their kinds, reading, order and text; and the small types of text and list that the other crates keep in their own types.
 #![tactic(auto)]
 
+mod civil;
 mod kind;
 mod list;
 mod memory;
 mod moment;
+mod order;
+mod printing;
+mod reading;
+mod round_trip;
+mod scalars;
 #[cfg(test)]
 mod tests;
 mod text;
+mod times;
 mod value;
 
+pub use civil::truncate;
 pub use kind::{DatePart, Kind, Tokenizer};
 pub use list::List;
 pub use memory::{Mem, OutOfMemory};
 pub use moment::Moment;
+pub use order::{cmp_posting, cmp_value, posting_order_laws, value_order_laws};
+pub use printing::write_value;
+pub use reading::{ValueFault, read_value};
+pub use round_trip::{bool_reads_back, int_reads_back};
 pub use text::Str;
 pub use value::{Posting, Value};
