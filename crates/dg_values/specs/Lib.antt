@@ -4,5 +4,7 @@ pub mod Instant
 pub mod Order
 pub mod Ascending
 pub mod Calendar
-pub mod Times
+pub mod Forms
+pub mod Printing
 pub mod Reading
+pub mod Scanning

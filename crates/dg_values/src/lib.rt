@@ -3,13 +3,13 @@
 
 mod civil;
 mod kind;
+mod laws;
 mod list;
 mod memory;
 mod moment;
 mod order;
 mod printing;
 mod reading;
-mod round_trip;
 mod scalars;
 #[cfg(test)]
 mod tests;
@@ -19,12 +19,12 @@ mod value;
 
 pub use civil::truncate;
 pub use kind::{DatePart, Kind, Tokenizer};
+pub use laws::{days_have_their_dates, readings_are_unique, truncated_is_first, value_reads_back};
 pub use list::List;
 pub use memory::{Mem, OutOfMemory};
 pub use moment::Moment;
 pub use order::{cmp_posting, cmp_value, posting_order_laws, value_order_laws};
 pub use printing::write_value;
 pub use reading::{ValueFault, read_value};
-pub use round_trip::{bool_reads_back, int_reads_back};
 pub use text::Str;
 pub use value::{Posting, Value};
