@@ -75,7 +75,7 @@ date_cases text number (Some c) (Some o) (Some m) (Some d) ec eo em ed h =
           ∙ ap (λ (l : List ℕ). pad2 m ++ l) (mark_found text 7 8 45 refl at.1 (omega arith)
           ∙ ap (λ (l : List ℕ). 45 ∷ l) day.shape))))
           ∙ ap (λ (k : ℕ). pad2 k ++ pad2 o ++ 45 ∷ pad2 m ++ 45 ∷ pad2 d ++ drop 10 text) high
-          ∙ ap (λ (k : ℕ). pad2 ((100 * c + o) / 100) ++ pad2 k ++ 45 ∷ pad2 m ++ 45 ∷ pad2 d ++ drop 10 text) low
+          ∙ ap (λ (k : ℕ). pad2 ((100 * c + o) / 100) ++ pad2 k ++ 45 ∷ pad2 m ++ 45 ∷ pad2 d ++ drop 10 text) low;
     }
 date_cases text number (Some c) (Some o) (Some m) None ec eo em ed h = cc
 date_cases text number (Some c) (Some o) None d ec eo em ed h = cc
@@ -145,7 +145,7 @@ clock_cases text number (Some h) (Some m) (Some s) eh em es p =
           ∙ ap (λ (l : List ℕ). pad2 h ++ l) (mark_found text 13 14 58 refl facts.0 (omega arith)
           ∙ ap (λ (l : List ℕ). 58 ∷ l) (minute.shape
           ∙ ap (λ (l : List ℕ). pad2 m ++ l) (mark_found text 16 17 58 refl facts.1 (omega arith)
-          ∙ ap (λ (l : List ℕ). 58 ∷ l) second.shape)))
+          ∙ ap (λ (l : List ℕ). 58 ∷ l) second.shape)));
     }
 clock_cases text number (Some h) (Some m) None eh em es p = cc
 clock_cases text number (Some h) None s eh em es p = cc

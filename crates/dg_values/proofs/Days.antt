@@ -84,8 +84,15 @@ module _ (n : ℤ) (h : IsDay n) where
       by_place (inr lt) = earlier_year lt
 
   first_month : days_from_civil (pos (year_of n)) 0 1 ≤ℤ n
-  first_month = omega (arith, signed_arith, year_began, days_from_civil-day_count (pos (year_of n)) 0 1, days_from_civil-day_count (pos (year_of n)) 1 1,
-      day_count-day_of_year (pos (year_of n)) 0 1 (omega arith), days_of_months-zero (pos (year_of n)))
+  first_month = omega (
+    arith,
+    signed_arith,
+    year_began,
+    days_from_civil-day_count (pos (year_of n)) 0 1,
+    days_from_civil-day_count (pos (year_of n)) 1 1,
+    day_count-day_of_year (pos (year_of n)) 0 1 (omega arith),
+    days_of_months-zero (pos (year_of n)),
+  )
 
   pub month_began : days_from_civil (pos (year_of n)) (month_of n) 1 ≤ℤ n
   unfolding month_of
@@ -142,5 +149,12 @@ module _ (n : ℤ) (h : IsDay n) where
 
   pub day_of_date : days_from_civil (pos (year_of n)) (month_of n) (day_of n) ≡ n
   unfolding day_of
-  day_of_date = omega (arith, signed_arith, month_began, one_part (n -ℤ days_from_civil (pos (year_of n)) (month_of n) 1), day_count-day (pos (year_of n)) (month_of n) (day_of n) 1 day_low (omega arith),
-      days_from_civil-day_count (pos (year_of n)) (month_of n) (day_of n), days_from_civil-day_count (pos (year_of n)) (month_of n) 1)
+  day_of_date = omega (
+    arith,
+    signed_arith,
+    month_began,
+    one_part (n -ℤ days_from_civil (pos (year_of n)) (month_of n) 1),
+    day_count-day (pos (year_of n)) (month_of n) (day_of n) 1 day_low (omega arith),
+    days_from_civil-day_count (pos (year_of n)) (month_of n) (day_of n),
+    days_from_civil-day_count (pos (year_of n)) (month_of n) 1,
+  )

@@ -42,7 +42,7 @@ hour_first : (m : Instant) → IsInstant m → IsFirstMoment parts.Hour m (trunc
 hour_first m h = record {
   moment = (omega (arith, signed_arith, whole, h.0), omega (arith, signed_arith, whole, h.1), omega arith);
   within = within;
-  earliest = λ other i same. not_after (truncated parts.Hour m).secs other (omega (arith, signed_arith, whole, one_part (other.secs +ℤ pos 62_167_219_200), i.0, same))
+  earliest = λ other i same. not_after (truncated parts.Hour m).secs other (omega (arith, signed_arith, whole, one_part (other.secs +ℤ pos 62_167_219_200), i.0, same));
 }
   where
     whole : (up (m.secs +ℤ pos 62_167_219_200) ≡ 0) ⊎ (down (m.secs +ℤ pos 62_167_219_200) ≡ 0)
@@ -66,7 +66,7 @@ day_first m h =
     record {
       moment = (omega (arith, signed_arith, day.low), omega (arith, signed_arith, day.high), omega arith);
       within = midnight_day (day_number m) day.low;
-      earliest = λ other i same. not_after (day_number m *ℤ pos 86400) other (begun (day_number m) other i (omega (arith, signed_arith, same)))
+      earliest = λ other i same. not_after (day_number m *ℤ pos 86400) other (begun (day_number m) other i (omega (arith, signed_arith, same)));
     }
 
 month_first : (m : Instant) → IsInstant m → IsFirstMoment parts.Month m (truncated parts.Month m)

@@ -80,7 +80,7 @@ pair_cases text at n (Some t) (Some u) e f h =
     record {
       small = omega arith;
       shape = tens.1 ∙ ap (λ (l : List ℕ). (48 + t) ∷ l) (ap (λ (k : ℕ). drop k text) next ∙ ones.1 ∙ ap (λ (k : ℕ). (48 + u) ∷ drop k text) last)
-          ∙ ap (λ (k : ℕ). (48 + k) ∷ (48 + u) ∷ drop (at + 2) text) high ∙ ap (λ (k : ℕ). (48 + n / 10) ∷ (48 + k) ∷ drop (at + 2) text) low
+          ∙ ap (λ (k : ℕ). (48 + k) ∷ (48 + u) ∷ drop (at + 2) text) high ∙ ap (λ (k : ℕ). (48 + n / 10) ∷ (48 + k) ∷ drop (at + 2) text) low;
     }
 pair_cases text at n (Some t) None e f h = cc
 pair_cases text at n None p e f h = cc

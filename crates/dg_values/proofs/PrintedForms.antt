@@ -107,7 +107,7 @@ fraction_prints (suc j) high =
 pub day_of_instant : (m : Instant) → IsInstant m → IsDay (day_number m)
 day_of_instant m h = record {
   low = omega (arith, signed_arith);
-  high = omega (arith, signed_arith, one_part (m.secs +ℤ pos 62_167_219_200), h.0, h.1)
+  high = omega (arith, signed_arith, one_part (m.secs +ℤ pos 62_167_219_200), h.0, h.1);
 }
 
 time_prints : (m : Instant) → IsInstant m → TimeForm (time_text m) m

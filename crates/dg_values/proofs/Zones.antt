@@ -227,7 +227,7 @@ width_cases text at number (Some h) (Some m) eh em p =
       same = let e : 3600 * h + 60 * m ≡ number = cc in e;
       shape = hour.shape
           ∙ ap (λ (l : List ℕ). pad2 h ++ l) (mark_found text (at + 2) (at + 3) 58 (omega arith) facts.0 (omega arith)
-          ∙ ap (λ (l : List ℕ). 58 ∷ l) (minute.shape ∙ ap (λ (l : List ℕ). pad2 m ++ l) last))
+          ∙ ap (λ (l : List ℕ). 58 ∷ l) (minute.shape ∙ ap (λ (l : List ℕ). pad2 m ++ l) last));
     }
 width_cases text at number (Some h) None eh em p = cc
 width_cases text at number None m eh em p = cc
@@ -346,7 +346,7 @@ fraction_cases text nanos place true true e f h =
       fraction = 46 ∷ fraction_digits text;
       form = subst (λ (n : ℕ). FractionForm (46 ∷ fraction_digits text) n) (sym (worth_of (fraction_digits text) all short) ∙ value) (digits (fraction_digits text) (omega arith, all) short);
       shape = mark_found text 19 20 46 refl b (omega arith)
-          ∙ ap (λ (l : List ℕ). 46 ∷ l) (leading_split (drop 20 text) ∙ ap (λ (l : List ℕ). fraction_digits text ++ l) (drop_drop text 20 (length (fraction_digits text)) ∙ ap (λ (k : ℕ). drop k text) here))
+          ∙ ap (λ (l : List ℕ). 46 ∷ l) (leading_split (drop 20 text) ∙ ap (λ (l : List ℕ). fraction_digits text ++ l) (drop_drop text 20 (length (fraction_digits text)) ∙ ap (λ (k : ℕ). drop k text) here));
     }
 fraction_cases text nanos place true false e f h = cc
 

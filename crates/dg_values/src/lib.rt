@@ -5,11 +5,15 @@ mod civil;
 mod kind;
 mod laws;
 mod list;
+#[cfg(test)]
+mod literals;
 mod memory;
 mod moment;
 mod order;
 mod printing;
 mod reading;
+#[cfg(test)]
+mod reading_tests;
 mod scalars;
 #[cfg(test)]
 mod tests;
