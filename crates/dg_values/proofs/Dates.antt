@@ -1,10 +1,10 @@
 -- Dates and clocks at the front of a text.
-use Rattle.std.proofs.Common.{◌≡◌, ℕ, zero, suc, ◌+◌, ◌-◌, ◌*◌, ◌/◌, ◌%◌, ◌<◌, ◌≤◌, Bool, true, false, List, [], ◌∷◌, ◌++◌, length, drop, refl, sym, ap, ◌∙◌, arith, ℤ, pos}
-use Rattle.std.specs.Prelude.{Option, Some, None, slice_index, if◌then◌else◌, option_and_then, nat_le, nat_lt, ◌&&◌, ◌==◌}
+use Rattle.std.proofs.Common.{◌≡◌, ℕ, ◌+◌, ◌*◌, ◌/◌, ◌%◌, ◌<◌, ◌≤◌, Bool, true, List, ◌∷◌, ◌++◌, drop, refl, ap, ◌∙◌, arith, ℤ, pos}
+use Rattle.std.specs.Prelude.{Option, Some, None, slice_index, if◌then◌else◌, option_and_then, nat_lt, ◌&&◌, ◌==◌}
 use Rattle.std.proofs.lemmas.Bool.Decides.{nat_tests}
 use Rattle.jiff_core.specs.Calendar.{days_from_civil, days_in_month, IsCivilDate}
 use Rattle.jiff_core.proofs.SignedLemmas.{signed_arith}
-use Rattle.jiff_fmt.specs.Text.{pad2, pad4}
+use Rattle.jiff_fmt.specs.Text.{pad2}
 use Rattle.dg_values.specs.Forms.{date_text, clock_text, IsClock}
 use Rattle.dg_values.specs.Scanning.{pair_at, is_date, day_if_any, date_of_text, clock_of_text}
 use Rattle.dg_values.proofs.Places.{gate, both, byte_at, pair_reads, pair_found, mark_found}

@@ -1,15 +1,15 @@
 -- Which days the years 0000 to 9999 have, and that each has a date.
-use Rattle.std.proofs.Common.{◌≡◌, ℕ, zero, suc, ◌+◌, ◌-◌, ◌*◌, ◌/◌, ◌%◌, ◌<◌, ◌≤◌, Bool, true, false, refl, sym, ap, ◌∙◌, subst, arith, ℤ, pos, negsuc, neg_ℤ, ◌+ℤ◌, ◌-ℤ◌, ◌<ℤ◌, ◌≤ℤ◌}
-use Rattle.std.specs.Prelude.{not, int_lt, if◌then◌else◌, unsigned_abs}
+use Rattle.std.proofs.Common.{◌≡◌, ℕ, zero, suc, ◌+◌, ◌<◌, ◌≤◌, Bool, true, false, refl, sym, ap, ◌∙◌, subst, arith, ℤ, pos, neg_ℤ, ◌+ℤ◌, ◌-ℤ◌, ◌<ℤ◌, ◌≤ℤ◌}
+use Rattle.std.specs.Prelude.{not, int_lt, if◌then◌else◌}
 use Rattle.std.specs.Prelude.{◌⊎◌}
 use Rattle.std.proofs.Common.{inl, inr}
 use Rattle.std.proofs.Math.Nat.{eq-or-lt_of_le}
 use Rattle.std.proofs.lemmas.Int.{ints}
-use Rattle.jiff_core.specs.Calendar.{days_from_civil, day_count, days_in_month, days_in_year, IsCivilDate}
+use Rattle.jiff_core.specs.Calendar.{days_from_civil, days_in_month, IsCivilDate}
 use Rattle.jiff_core.proofs.SignedLemmas.{signed_arith, one_part}
-use Rattle.jiff_core.proofs.CalendarLemmas.{days_from_civil-day_count, day_count_bounds, day_count-day, day_count-end, day_count-next_year, day_count-next_month, day_count-last_of_year, days_in_month_bounds, day_count-day_of_year, days_of_months-zero}
+use Rattle.jiff_core.proofs.CalendarLemmas.{days_from_civil-day_count, day_count-day, day_count-end, day_count-next_year, day_count-next_month, day_count-last_of_year, days_in_month_bounds, day_count-day_of_year, days_of_months-zero}
 use Rattle.dg_values.specs.Calendar.{latest, year_of, month_of, day_of}
-use Rattle.dg_values.proofs.DateParts.{before, the_year, the_month, day_from_zero, number-zero}
+use Rattle.dg_values.proofs.DateParts.{before, number-zero}
 
 -- ---- the latest that passes a test
 

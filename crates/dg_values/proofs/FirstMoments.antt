@@ -1,21 +1,21 @@
 -- A moment cut down is the first of its part.
-use Rattle.std.proofs.Common.{◌≡◌, ℕ, zero, suc, ◌+◌, ◌-◌, ◌*◌, ◌/◌, ◌%◌, ◌<◌, ◌≤◌, ◌≢◌, ℤ, pos, neg_ℤ, ◌+ℤ◌, ◌-ℤ◌, ◌*ℤ◌, ◌≤ℤ◌, refl, sym, ap, ◌∙◌, subst, arith}
+use Rattle.std.proofs.Common.{◌≡◌, ℕ, ◌/◌, ◌≢◌, ℤ, pos, neg_ℤ, ◌+ℤ◌, ◌*ℤ◌, ◌≤ℤ◌, refl, ap, ◌∙◌, subst, arith}
 use Rattle.std.specs.declared.cmp.Ordering.{Ordering}
 use Rattle.std.specs.declared.cmp.Ordering.TheVariants.{Less, Equal, Greater}
 use Rattle.std.specs.Ordering.{nat_cmp, int_cmp, ordering_then}
-use Rattle.std.specs.Prelude.{unsigned_abs, ◌⊎◌}
+use Rattle.std.specs.Prelude.{◌⊎◌}
 use borrow.Author.Differences.{up, down}
 use Rattle.std.proofs.lemmas.Int.{ints}
 use Rattle.std.proofs.lemmas.Bool.Decides.{nat_tests}
-use Rattle.jiff_core.specs.Calendar.{days_from_civil, IsCivilDate}
+use Rattle.jiff_core.specs.Calendar.{days_from_civil}
 use Rattle.jiff_core.proofs.SignedLemmas.{signed_arith, one_part}
 use Rattle.dg_values.specs.declared.kind.DatePart.{DatePart}
 use Rattle.dg_values.specs.declared.kind.DatePart.TheVariants as parts
 use Rattle.dg_values.specs.Instant.{Instant, IsInstant}
 use Rattle.dg_values.specs.Order.{moment_cmp}
-use Rattle.dg_values.specs.Calendar.{year_of, month_of, seconds_of, day_number, midnight, truncated, IsSamePart, IsFirstMoment}
+use Rattle.dg_values.specs.Calendar.{year_of, month_of, seconds_of, day_number, midnight, truncated, IsFirstMoment}
 use Rattle.dg_values.proofs.DateParts.{the_year, the_month}
-use Rattle.dg_values.proofs.Days.{IsDay, year_began, year_small, month_began, first_of_month, first_of_year}
+use Rattle.dg_values.proofs.Days.{year_began, year_small, month_began, first_of_month, first_of_year}
 use Rattle.dg_values.proofs.PrintedForms.{day_of_instant}
 use Rattle.dg_values.proofs.TimeForms.{midnight_in}
 

@@ -1,10 +1,10 @@
 -- What is printed is a form of what it was.
-use Rattle.std.proofs.Common.{◌≡◌, ℕ, zero, suc, ◌+◌, ◌-◌, ◌*◌, ◌/◌, ◌%◌, ◌^◌, ◌<◌, ◌≤◌, ◌≢◌, Bool, true, false, List, [], ◌∷◌, ◌++◌, length, ℤ, pos, negsuc, neg_ℤ, ◌+ℤ◌, ◌-ℤ◌, ◌*ℤ◌, ◌≤ℤ◌, refl, sym, ap, ◌∙◌, subst, arith, FitsSigned, w64}
-use Rattle.std.specs.Prelude.{None, unsigned_abs, ◌==◌, if◌then◌else◌}
+use Rattle.std.proofs.Common.{◌≡◌, ℕ, zero, suc, ◌+◌, ◌-◌, ◌*◌, ◌/◌, ◌%◌, ◌^◌, ◌<◌, ◌≤◌, Bool, false, List, [], ◌∷◌, length, ℤ, pos, negsuc, neg_ℤ, ◌+ℤ◌, ◌-ℤ◌, ◌*ℤ◌, refl, sym, ap, ◌∙◌, subst, arith, FitsSigned, w64}
+use Rattle.std.specs.Prelude.{None, ◌==◌, if◌then◌else◌}
 use Rattle.std.proofs.lemmas.Bool.Decides.{nat_tests}
 use Rattle.std.specs.Fmt.{decimal, signed_decimal}
 use Rattle.std.specs.Char.{digit_value}
-use Rattle.std.specs.Str.Parse.{IsNumeral, AllDigits, digits_value, digits_value_after}
+use Rattle.std.specs.Str.Parse.{AllDigits, digits_value, digits_value_after}
 use Rattle.std.proofs.lemmas.Fmt.{decimal_is_IsNumeral}
 use Rattle.std.proofs.lemmas.Str.{digit_value_digit}
 use Rattle.std.proofs.lemmas.Str.Parse.{digit_from_value}
@@ -22,8 +22,8 @@ use Rattle.dg_values.specs.declared.kind.Kind.TheVariants as kinds
 use Rattle.dg_values.specs.declared.value.Value.{Value}
 use Rattle.dg_values.specs.declared.value.Value.TheVariants.{Int, Text, Bool as Truth, Time}
 use Rattle.dg_values.specs.Instant.{Instant, IsInstant}
-use Rattle.dg_values.specs.Calendar.{year_of, month_of, day_of, seconds_of, day_number, clock_of, moment_on}
-use Rattle.dg_values.specs.Forms.{IntForm, TimeForm, FractionForm, ZoneForm}
+use Rattle.dg_values.specs.Calendar.{year_of, month_of, day_of, day_number, clock_of, moment_on}
+use Rattle.dg_values.specs.Forms.{IntForm, TimeForm, FractionForm}
 use Rattle.dg_values.specs.Forms.IntForm.{plain, minus}
 use Rattle.dg_values.specs.Forms.TimeForm.{with_clock}
 use Rattle.dg_values.specs.Forms.ClockMark.{upper_t}

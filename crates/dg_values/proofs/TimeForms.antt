@@ -1,5 +1,5 @@
 -- The scan of a time finds exactly the moments of its forms.
-use Rattle.std.proofs.Common.{◌≡◌, ℕ, zero, suc, ◌+◌, ◌-◌, ◌*◌, ◌<◌, ◌≤◌, Bool, true, false, List, [], ◌∷◌, ◌++◌, length, drop, refl, sym, ap, ◌∙◌, subst, arith, ℤ, pos, neg_ℤ, ◌+ℤ◌, ◌-ℤ◌, ◌*ℤ◌, ◌≤ℤ◌, length-append, length-drop}
+use Rattle.std.proofs.Common.{◌≡◌, ℕ, zero, suc, ◌+◌, ◌*◌, ◌<◌, ◌≤◌, Bool, true, false, List, [], ◌∷◌, ◌++◌, length, drop, refl, sym, ap, ◌∙◌, subst, arith, ℤ, pos, ◌+ℤ◌, ◌-ℤ◌, ◌*ℤ◌, ◌≤ℤ◌, length-append, length-drop}
 use Rattle.std.specs.Prelude.{Option, Some, None, slice_index, if◌then◌else◌, option_and_then, int_lt, not, ◌&&◌, ◌||◌, ◌==◌, ◌⊎◌}
 use Rattle.std.proofs.Common.{inl, inr}
 use Rattle.std.proofs.lemmas.Bool.Decides.{nat_tests}
@@ -7,7 +7,6 @@ use Rattle.std.proofs.lemmas.Int.{ints}
 use Rattle.jiff_core.specs.Calendar.{days_from_civil, IsCivilDate}
 use Rattle.jiff_core.proofs.SignedLemmas.{signed_arith}
 use Rattle.jiff_core.proofs.CalendarLemmas.{days_from_civil-day_count, day_count_bounds}
-use Rattle.jiff_fmt.specs.Text.{pad2}
 use Rattle.dg_values.specs.Instant.{Instant, InYears, IsInstant, first_second, last_second}
 use Rattle.dg_values.specs.Calendar.{midnight, moment_on}
 use Rattle.dg_values.specs.Forms.{TimeForm, ClockMark, FractionForm, ZoneForm, IsClock, date_text, clock_text}
@@ -15,8 +14,8 @@ use Rattle.dg_values.specs.Forms.TimeForm.{day_alone, with_clock}
 use Rattle.dg_values.specs.Forms.ClockMark.{upper_t, lower_t}
 use Rattle.dg_values.specs.Scanning.{date_of_text, clock_of_text, fraction_of_text, zone_of_text, moment_at, moment_of_text, time_of_text}
 use Rattle.dg_values.proofs.Places.{gate, byte_at, mark_found}
-use Rattle.dg_values.proofs.Dates.{IsDated, IsTimed, date_reads, date_found, clock_reads, clock_found}
-use Rattle.dg_values.proofs.Zones.{IsFractionOf, fraction_reads, fraction_found, zone_reads, zone_found, zone_place, nanos_bound}
+use Rattle.dg_values.proofs.Dates.{date_reads, date_found, clock_reads, clock_found}
+use Rattle.dg_values.proofs.Zones.{fraction_reads, fraction_found, zone_reads, zone_found, zone_place, nanos_bound}
 use Rattle.dg_values.proofs.Joined.{joined, timed}
 use Rattle.dg_values.proofs.DateParts.{day_from_zero}
 

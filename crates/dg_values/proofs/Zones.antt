@@ -1,7 +1,7 @@
 -- Fractions and zones at the end of a text.
-use Rattle.std.proofs.Common.{◌≡◌, ℕ, zero, suc, ◌+◌, ◌-◌, ◌*◌, ◌/◌, ◌%◌, ◌^◌, ◌<◌, ◌≤◌, Bool, true, false, List, [], ◌∷◌, ◌++◌, length, drop, refl, sym, ap, ◌∙◌, subst, arith, add-one, ℤ, pos, length-drop, length-append}
+use Rattle.std.proofs.Common.{◌≡◌, ℕ, zero, suc, ◌+◌, ◌-◌, ◌*◌, ◌/◌, ◌^◌, ◌<◌, ◌≤◌, Bool, true, false, List, [], ◌∷◌, ◌++◌, length, drop, refl, sym, ap, ◌∙◌, subst, arith, ℤ, pos, length-drop}
 use Rattle.std.specs.Prelude.{Option, Some, None, slice_index, if◌then◌else◌, option_and_then, option_map, nat_le, nat_lt, not, neg_ℤ, ◌&&◌, ◌||◌, ◌==◌}
-use Rattle.std.specs.Str.Parse.{IsNumeral, AllDigits, digits_value, digits_value_after}
+use Rattle.std.specs.Str.Parse.{AllDigits, digits_value, digits_value_after}
 use Rattle.std.specs.Char.{digit_value}
 use Rattle.std.proofs.lemmas.Str.{digit_value_digit}
 use Rattle.std.proofs.lemmas.Str.Parse.{digit_from_value}
@@ -19,7 +19,7 @@ use Rattle.dg_values.specs.Forms.{FractionForm, ZoneForm}
 use Rattle.dg_values.specs.Forms.FractionForm.{whole, digits}
 use Rattle.dg_values.specs.Forms.ZoneForm.{unsaid, upper_z, lower_z, ahead, behind}
 use Rattle.dg_values.specs.Scanning.{is_digit, pair_at, leading_digits, fraction_digits, fraction_value, fraction_of_text, width_of_text, zone_of_text}
-use Rattle.dg_values.proofs.Places.{gate, byte_at, rest_at, starts_at, pair_reads, pair_found, mark_found}
+use Rattle.dg_values.proofs.Places.{gate, byte_at, rest_at, pair_reads, pair_found, mark_found}
 
 -- ---- the digits that a text begins with
 
