@@ -8,12 +8,12 @@ use Rattle.dg_table.specs.Rows.{Row}
 abbrev pub is_among : List (List ℕ) → List ℕ → Bool
 is_among names name = list_any (λ other. bytes_eq other name) names
 
--- two for those that name a session and a length or a predicate and a group, none for two, else one
+-- how many arguments the verb of that name takes
 abbrev pub argument_count : List ℕ → ℕ
 argument_count name =
     if is_among (codes "mutate" ∷ codes "upsert" ∷ codes "query" ∷ codes "movestart" ∷ []) name then 2
     else (if is_among (codes "line" ∷ codes "state" ∷ []) name then 0 else 1)
 
--- whether the counts have, at a row's code, what the verb of its name takes
+-- whether the counts have, at the row's code, what the verb of its name takes
 abbrev pub is_counted : List ℕ → Row → Bool
 is_counted counts row = nat_lt row.1 17 && slice_index counts row.1 == argument_count row.0
