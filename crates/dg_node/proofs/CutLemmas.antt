@@ -23,7 +23,7 @@ passed false x y e = absurd (none y e)
     none : {A : Type 0} (y : A) → None ≡ Some y → ⊥
     none y e = cc
 
-same_bytes : (xs ys : List ℕ) → bytes_eq xs ys ≡ true → xs ≡ ys
+pub same_bytes : (xs ys : List ℕ) → bytes_eq xs ys ≡ true → xs ≡ ys
 same_bytes xs ys h = (bytes_eq-Decides xs ys).0 h
 
 pub equal_bytes : (xs ys : List ℕ) → xs ≡ ys → bytes_eq xs ys ≡ true
@@ -59,11 +59,8 @@ before_end-append end rest =
 -- ---- the first such byte
 
 pub cut_at-sound : (byte : ℕ) (bytes front back : List ℕ) → cut_at byte bytes ≡ Some (front, back) → bytes ≡ front ++ (byte ∷ back)
-cut_at-sound byte bytes front back e = by (nat_lt at (length bytes)) refl e
+cut_at-sound byte bytes front back e = by (nat_lt (position_or_len (λ b. eqb b byte) bytes) (length bytes)) refl e
   where
-    at : ℕ
-    at = position_or_len (λ b. eqb b byte) bytes
-
     pairs : (a b : List ℕ × List ℕ) → Some a ≡ Some b → a ≡ b
     pairs a b e = cc
 

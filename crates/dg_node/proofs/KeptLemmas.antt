@@ -3,7 +3,7 @@ use Rattle.std.proofs.Common.{◌≡◌, ℕ, ◌+◌, ◌<◌, ◌≤◌, Bool,
 use Rattle.std.specs.Prelude.{nat_lt, nat_le, Result, Ok, Err, OnOk, OnErr}
 use Rattle.std.specs.List.{list_all, list_any}
 use Rattle.std.specs.Str.{bytes_eq}
-use Rattle.std.proofs.lemmas.Bool.{false≢true}
+use Rattle.std.proofs.lemmas.Bool.{false≢true, and_parts}
 use Rattle.std.proofs.lemmas.Bool.Decides.{nat_tests}
 use Rattle.std.proofs.lemmas.List.Folds.{list_all-append, list_any-append}
 use Rattle.dg_node.specs.declared.facts.Fact.{Fact}
@@ -11,14 +11,7 @@ use Rattle.dg_node.specs.declared.machine.Declared.{Declared}
 use Rattle.dg_node.specs.declared.machine.Committed.{Committed}
 use Rattle.dg_node.specs.declared.machine.Opened.{Opened}
 use Rattle.dg_node.specs.Plain.{is_declared_by, are_declared_by, commits_fit, session_fits, alters_fit, IsKept}
-
-pub both : (a b : Bool) → (a && b) ≡ true → (a ≡ true) × (b ≡ true)
-both true b h = (refl, h)
-both false b h = absurd (false≢true h)
-
-joined : (a b : Bool) → a ≡ true → b ≡ true → (a && b) ≡ true
-joined true b h k = k
-joined false b h k = absurd (false≢true h)
+use Rattle.dg_node.proofs.Bools.{joined}
 
 left_or : (a b : Bool) → a ≡ true → (a || b) ≡ true
 left_or true b h = refl
@@ -27,7 +20,7 @@ left_or false b h = absurd (false≢true h)
 -- a stronger test
 all_more : {A : Type 0} (p q : A → Bool) (xs : List A) → ((x : A) → p x ≡ true → q x ≡ true) → list_all p xs ≡ true → list_all q xs ≡ true
 all_more p q [] more h = refl
-all_more p q (x ∷ xs) more h = let parts = both (p x) (list_all p xs) h in joined (q x) (list_all q xs) (more x parts.0) (all_more p q xs more parts.1)
+all_more p q (x ∷ xs) more h = let parts = and_parts (p x) (list_all p xs) h in joined (q x) (list_all q xs) (more x parts.0) (all_more p q xs more parts.1)
 
 any_more : {A : Type 0} (p q : A → Bool) (xs : List A) → ((x : A) → p x ≡ true → q x ≡ true) → list_any p xs ≡ true → list_any q xs ≡ true
 any_more p q [] more h = absurd (false≢true h)
@@ -47,8 +40,8 @@ pushed p xs x h k = list_all-append p xs (x ∷ []) ∙ joined (list_all p xs) (
 -- the parts of what is kept
 pub kept_parts : (next : ℕ) (alters : List Declared) (commits : List Committed) (session : Option Opened) → IsKept next alters commits session → (alters_fit alters next ≡ true) × (commits_fit alters commits ≡ true) × (session_fits alters next session ≡ true)
 kept_parts next alters commits session h =
-    let first = both (alters_fit alters next) (commits_fit alters commits && session_fits alters next session) h in
-    let rest = both (commits_fit alters commits) (session_fits alters next session) first.1 in
+    let first = and_parts (alters_fit alters next) (commits_fit alters commits && session_fits alters next session) h in
+    let rest = and_parts (commits_fit alters commits) (session_fits alters next session) first.1 in
     (first.0, rest.0, rest.1)
 
 kept_of : (next : ℕ) (alters : List Declared) (commits : List Committed) (session : Option Opened) → alters_fit alters next ≡ true → commits_fit alters commits ≡ true → session_fits alters next session ≡ true → IsKept next alters commits session
@@ -57,8 +50,8 @@ kept_of next alters commits session a b c = joined (alters_fit alters next) (com
 -- the parts of an open session
 pub session_parts : (next : ℕ) (alters : List Declared) (opened : Opened) → session_fits alters next (Some opened) ≡ true → (nat_lt opened.start next ≡ true) × (list_all (λ a. nat_le a.ts opened.start) alters ≡ true) × (are_declared_by alters opened.start opened.own ≡ true)
 session_parts next alters opened h =
-    let first = both (nat_lt opened.start next) (list_all (λ a. nat_le a.ts opened.start) alters && are_declared_by alters opened.start opened.own) h in
-    let rest = both (list_all (λ a. nat_le a.ts opened.start) alters) (are_declared_by alters opened.start opened.own) first.1 in
+    let first = and_parts (nat_lt opened.start next) (list_all (λ a. nat_le a.ts opened.start) alters && are_declared_by alters opened.start opened.own) h in
+    let rest = and_parts (list_all (λ a. nat_le a.ts opened.start) alters) (are_declared_by alters opened.start opened.own) first.1 in
     (first.0, rest.0, rest.1)
 
 -- a larger next timestamp
@@ -76,7 +69,7 @@ declared_later alters ts more name le h = any_more (λ (a : Declared). nat_le a.
     wider n k = grind (arith, nat_tests)
 
     step : (a : Declared) → (nat_le a.ts ts && bytes_eq a.name name) ≡ true → (nat_le a.ts more && bytes_eq a.name name) ≡ true
-    step a k = let parts = both (nat_le a.ts ts) (bytes_eq a.name name) k in joined (nat_le a.ts more) (bytes_eq a.name name) (wider a.ts parts.0) parts.1
+    step a k = let parts = and_parts (nat_le a.ts ts) (bytes_eq a.name name) k in joined (nat_le a.ts more) (bytes_eq a.name name) (wider a.ts parts.0) parts.1
 
 facts_later : (alters : List Declared) (ts more : ℕ) (facts : List Fact) → ts ≤ more → are_declared_by alters ts facts ≡ true → are_declared_by alters more facts ≡ true
 facts_later alters ts more facts le h = all_more (λ (f : Fact). is_declared_by alters ts f.name) (λ (f : Fact). is_declared_by alters more f.name) facts (λ f k. declared_later alters ts more f.name le k) h
@@ -126,7 +119,7 @@ kept_commit next alters commits opened c at own h =
 declared_before : (alters : List Declared) (start : ℕ) (name : List ℕ) → list_all (λ a. nat_le a.ts start) alters ≡ true → list_any (λ a. bytes_eq a.name name) alters ≡ true → is_declared_by alters start name ≡ true
 declared_before [] start name h k = absurd (false≢true k)
 declared_before (a ∷ alters) start name h k =
-    let parts = both (nat_le a.ts start) (list_all (λ b. nat_le b.ts start) alters) h in
+    let parts = and_parts (nat_le a.ts start) (list_all (λ b. nat_le b.ts start) alters) h in
     ap (λ (b : Bool). (b && bytes_eq a.name name) || is_declared_by alters start name) parts.0 ∙ by (bytes_eq a.name name) k (declared_before alters start name parts.1)
   where
     by : (b : Bool) → (b || list_any (λ d. bytes_eq d.name name) alters) ≡ true → (list_any (λ d. bytes_eq d.name name) alters ≡ true → is_declared_by alters start name ≡ true) → (b || is_declared_by alters start name) ≡ true

@@ -5,21 +5,14 @@ use Rattle.std.specs.Option.{option_map, option_and_then}
 use Rattle.std.specs.List.{list_all}
 use Rattle.std.specs.Char.{digit_value}
 use Rattle.std.specs.Str.Parse.{AllDigits, digits_value}
-use Rattle.std.proofs.lemmas.Bool.{false≢true, eqb-true}
+use Rattle.std.proofs.lemmas.Bool.{eqb-true, and_parts}
 use Rattle.std.proofs.lemmas.Bool.Decides.{nat_tests}
 use Rattle.dg_wire.specs.Names.{starts_name, goes_on, is_dot_before, is_name_end, is_name}
 use Rattle.dg_node.specs.Bodies.{is_predicate, is_plain, IsNode, Declares, Sets, Asks}
 use Rattle.dg_node.specs.Scanning.{after_front, before_end, cut_at, is_hex, uid_of, declared_by, plain_triple, set_by, asked_by}
 use Rattle.dg_node.proofs.CutLemmas.{passed, after_front-sound, after_front-append, before_end-sound, before_end-append, cut_at-sound, cut_at-first, Lacks}
 use Rattle.dg_node.proofs.HexLemmas.{all_hex}
-
-both : (a b : Bool) → (a && b) ≡ true → (a ≡ true) × (b ≡ true)
-both true b h = (refl, h)
-both false b h = absurd (false≢true h)
-
-joined : (a b : Bool) → a ≡ true → b ≡ true → (a && b) ≡ true
-joined true b h k = k
-joined false b h k = absurd (false≢true h)
+use Rattle.dg_node.proofs.Bools.{joined}
 
 no_some : {A : Type 0} (x : A) → None ≡ Some x → ⊥
 no_some x e = cc
@@ -57,14 +50,14 @@ part_lack c (d ∷ ds) h = grind (arith, nat_tests)
 end_lack : (cs : List ℕ) → is_name_end cs ≡ true → Lacks 62 cs
 end_lack [] h = tt
 end_lack (c ∷ cs) h =
-    let parts = both (goes_on c || is_dot_before c cs) (is_name_end cs) h in
+    let parts = and_parts (goes_on c || is_dot_before c cs) (is_name_end cs) h in
     (part_lack c cs parts.0, end_lack cs parts.1)
 
 name_lacks : (cs : List ℕ) → is_name cs ≡ true → Lacks 62 cs
 name_lacks [] h = tt
 name_lacks (c ∷ cs) h =
-    let parts = both (starts_name c) _ h in
-    let rest = both _ (is_name_end cs) parts.1 in
+    let parts = and_parts (starts_name c) _ h in
+    let rest = and_parts _ (is_name_end cs) parts.1 in
     (starts_lack c parts.0, end_lack cs rest.1)
 
 -- ---- the node that digits name
@@ -77,9 +70,9 @@ uid_of-sound : (ds : List ℕ) (uid : ℕ) → uid_of ds ≡ Some uid → IsNode
 unfolding uid_of
 uid_of-sound ds uid e =
     let all = passed _ (digits_value 16 ds) uid e in
-    let some = both (nat_lt 0 (length ds)) _ all.0 in
-    let most = both (nat_le (length ds) 15) _ some.1 in
-    let each = both (list_all is_hex ds) _ most.1 in
+    let some = and_parts (nat_lt 0 (length ds)) _ all.0 in
+    let most = and_parts (nat_le (length ds) 15) _ some.1 in
+    let each = and_parts (list_all is_hex ds) _ most.1 in
     let is : digits_value 16 ds ≡ uid = all.1 in
     let above : 0 < digits_value 16 ds = let h : nat_lt 0 (digits_value 16 ds) ≡ true = each.1 in grind (arith, nat_tests) in
     record {
@@ -165,7 +158,7 @@ set_by-sound body uid name value e =
     let v = stepped (set_node d.value.0 n.value.0) (before_end (codes "\" .") c.value) (uid, name, value) c.then in
     let u = stepped (λ (k : ℕ). plain_triple k n.value.0 v.value) (uid_of d.value.0) (uid, name, value) v.then in
     let test = passed (is_name n.value.0 && list_all is_plain v.value) (u.value, n.value.0, v.value) (uid, name, value) u.then in
-    let plain = both (is_name n.value.0) (list_all is_plain v.value) test.0 in
+    let plain = and_parts (is_name n.value.0) (list_all is_plain v.value) test.0 in
     let is = pairs (u.value, n.value.0, v.value) (uid, name, value) test.1 in
     let name_is : n.value.0 ≡ name = is.1 in
     let value_is : v.value ≡ value = is.2 in

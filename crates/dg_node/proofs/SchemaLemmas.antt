@@ -4,37 +4,23 @@ use Rattle.std.specs.Prelude.{find, is_some, fold, map, nat_le}
 use Rattle.std.specs.List.{list_any, AllByRecursion}
 use Rattle.std.specs.Str.{bytes_eq}
 use Rattle.std.specs.Cmp.Lexicographic.{texts_ties}
-use Rattle.std.proofs.lemmas.Slice.Eq.{bytes_eq-Decides}
+use Rattle.std.proofs.Math.Bool.{or-false, or-true, or_assoc}
 use Rattle.std.proofs.lemmas.List.Folds.{list_any-append}
 use Rattle.dg_values.specs.Order.{same_text}
 use Rattle.dg_node.specs.declared.machine.Declared.{Declared}
 use Rattle.dg_node.specs.Schemas.{PredDef, is_named, is_declared, replaced, with_definition, with_definitions, after_alter, schema_at, present_schema, is_single_by, is_single}
 use Rattle.dg_node.specs.Alters.{string_definition}
 use Rattle.dg_node.specs.Plain.{alter_of, is_declared_by}
+use Rattle.dg_node.proofs.CutLemmas.{same_bytes}
 
 -- texts are the same where their bytes are
 pub same_text-bytes : (a b : List ℕ) → same_text a b ≡ bytes_eq a b
 same_text-bytes a b = sym (texts_ties a b)
 
-pub same_bytes : (a b : List ℕ) → bytes_eq a b ≡ true → a ≡ b
-same_bytes a b h = (bytes_eq-Decides a b).0 h
-
 pub same_text-equal : (a b : List ℕ) → same_text a b ≡ true → a ≡ b
 same_text-equal a b h = same_bytes a b (sym (same_text-bytes a b) ∙ h)
 
 -- ---- which names are declared
-
-pub or_false : (a : Bool) → (a || false) ≡ a
-or_false true = refl
-or_false false = refl
-
-or_true : (a : Bool) → (a || true) ≡ true
-or_true true = refl
-or_true false = refl
-
-or_assoc : (a b c : Bool) → ((a || b) || c) ≡ (a || (b || c))
-or_assoc true b c = refl
-or_assoc false b c = refl
 
 declared_any : (schema : List PredDef) (name : List ℕ) → is_declared schema name ≡ list_any (is_named name) schema
 declared_any [] name = refl
@@ -61,31 +47,31 @@ pub declared_with : (schema : List PredDef) (newer : PredDef) (name : List ℕ) 
 declared_with schema newer name = by (is_declared schema newer.name) refl
   where
     there : is_declared schema newer.name ≡ true → (b : Bool) → same_text newer.name name ≡ b → is_declared schema name ≡ (is_declared schema name || b)
-    there h true e = subst (λ (n : List ℕ). is_declared schema n ≡ true) (same_text-equal newer.name name e) h ∙ sym (or_true (is_declared schema name))
-    there h false e = sym (or_false (is_declared schema name))
+    there h true e = subst (λ (n : List ℕ). is_declared schema n ≡ true) (same_text-equal newer.name name e) h ∙ sym (or-true (is_declared schema name))
+    there h false e = sym (or-false (is_declared schema name))
 
     by : (b : Bool) → is_declared schema newer.name ≡ b → is_declared (cond b (map (replaced newer) schema) (schema ++ newer ∷ [])) name ≡ (is_declared schema name || same_text newer.name name)
     by true e =
         declared_any (map (replaced newer) schema) name ∙ replaced_all newer schema name ∙ sym (declared_any schema name) ∙ there e (same_text newer.name name) refl
     by false e =
-        declared_any (schema ++ newer ∷ []) name ∙ list_any-append (is_named name) schema (newer ∷ []) ∙ ap (λ (b : Bool). list_any (is_named name) schema || b) (or_false (same_text newer.name name))
+        declared_any (schema ++ newer ∷ []) name ∙ list_any-append (is_named name) schema (newer ∷ []) ∙ ap (λ (b : Bool). list_any (is_named name) schema || b) (or-false (same_text newer.name name))
         ∙ ap (λ (b : Bool). b || same_text newer.name name) (sym (declared_any schema name))
 
 declared_more : (schema : List PredDef) (a : Declared) (name : List ℕ) → is_declared (with_definitions schema (string_definition a.name ∷ [])) name ≡ (is_declared schema name || bytes_eq a.name name)
 declared_more schema a name = declared_with schema (string_definition a.name) name ∙ ap (λ (b : Bool). is_declared schema name || b) (same_text-bytes a.name name)
 
 declared_at : (alters : List Declared) (ts : ℕ) (schema : List PredDef) (name : List ℕ) → is_declared (fold (after_alter ts) schema (map alter_of alters)) name ≡ (is_declared schema name || is_declared_by alters ts name)
-declared_at [] ts schema name = sym (or_false (is_declared schema name))
+declared_at [] ts schema name = sym (or-false (is_declared schema name))
 declared_at (a ∷ alters) ts schema name =
     declared_at alters ts (after_alter ts schema (alter_of a)) name ∙ ap (λ (b : Bool). b || is_declared_by alters ts name) (by (nat_le a.ts ts))
     ∙ or_assoc (is_declared schema name) (nat_le a.ts ts && bytes_eq a.name name) (is_declared_by alters ts name)
   where
     by : (b : Bool) → is_declared (cond b (with_definitions schema (string_definition a.name ∷ [])) schema) name ≡ (is_declared schema name || (b && bytes_eq a.name name))
     by true = declared_more schema a name
-    by false = sym (or_false (is_declared schema name))
+    by false = sym (or-false (is_declared schema name))
 
 declared_now : (alters : List Declared) (schema : List PredDef) (name : List ℕ) → is_declared (fold (λ s alter. with_definitions s alter.definitions) schema (map alter_of alters)) name ≡ (is_declared schema name || list_any (λ a. bytes_eq a.name name) alters)
-declared_now [] schema name = sym (or_false (is_declared schema name))
+declared_now [] schema name = sym (or-false (is_declared schema name))
 declared_now (a ∷ alters) schema name =
     declared_now alters (with_definitions schema (string_definition a.name ∷ [])) name ∙ ap (λ (b : Bool). b || list_any (λ a. bytes_eq a.name name) alters) (declared_more schema a name)
     ∙ or_assoc (is_declared schema name) (bytes_eq a.name name) (list_any (λ a. bytes_eq a.name name) alters)
