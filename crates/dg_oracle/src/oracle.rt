@@ -113,9 +113,10 @@ impl<K: Ord> Oracle<K> {
     }
 
     /// The line that a purge may take now: the number below the least active start, or, where no transaction is
-    /// active, the last timestamp that was drawn, taken as the next one less 1.
+    /// active, the last timestamp that was drawn, taken as the next one less 1. It is never below the purge line.
     pub fn line(&self) -> u64
         ensures line { result ≡ below_first self.now.active self.now.next }
+        ensures not_below { self.now.line ≤ result }
         ensures valid { IsOracle self.now }
     {
         match self.active.first() {

@@ -18,6 +18,11 @@ fn spent_timestamps(rt: HostRuntime) -> Result<(), Fail> {
         Err(OracleFault::TimestampsSpent { next: END })
     );
     assert_eq!(rt; oracle.draw_two(), None);
+    let text = format!(in rt.alloc(); "{}", OracleFault::TimestampsSpent { next: END })?;
+    assert_eq!(rt;
+        text.as_str(),
+        "timestamps are spent at 4611686018427387904"
+    );
 
     let mut oracle: Oracle<u64> = Oracle::starting_at(rt.alloc(), END - 1)?;
     assert_eq!(rt; oracle.draw_two(), None);
