@@ -1,8 +1,15 @@
 // What holds of every run of the machine.
+ghost use Rattle.dg_node.specs.Complete.{IsComplete};
 ghost use Rattle.dg_node.specs.Steps.{IsDetermined};
 
 /// The replies to a list of requests, and the state behind them, are one alone where no reply says that memory was
 /// wanting.
 pub fn runs_are_determined()
     ensures { IsDetermined }
+{}
+
+/// An input that is the frames of some requests and no more, within the limit, is answered to its end with the replies
+/// to these requests, unless a read or a write fails or memory is wanting.
+pub fn frames_are_answered()
+    ensures { IsComplete }
 {}
