@@ -1,6 +1,6 @@
 -- The tokens that are listed are exactly those of the value.
 use Rattle.std.proofs.Common.{◌≡◌, ℕ, List, [], ◌∷◌, ◌++◌, refl, sym, ap, ◌∙◌, subst, map, inl, inr, append_assoc}
-use Rattle.std.specs.Prelude.{◌⊎◌, ◌↔◌, chars, encode_utf8_all}
+use Rattle.std.specs.Prelude.{◌↔◌, chars, encode_utf8_all}
 use Rattle.std.specs.List.{Contains}
 use Rattle.dg_values.specs.declared.kind.Tokenizer.{Tokenizer}
 use Rattle.dg_values.specs.declared.kind.Tokenizer.TheVariants as tokenizers
