@@ -8,6 +8,7 @@ use Rattle.dg_values.specs.Instant.{Instant}
 use Rattle.dg_values.specs.Calendar.{year_of, month_of, day_of, day_number, clock_of}
 use Rattle.dg_values.specs.Forms.{date_text, clock_text}
 
+-- `true` or `false`
 abbrev pub truth_text : Bool → List ℕ
 truth_text true = codes "true"
 truth_text false = codes "false"
