@@ -1,0 +1,6 @@
+//! Operations on the postings of a list, and what they make of it.
+#![tactic(auto)]
+
+mod op;
+
+pub use op::Op;

@@ -1,0 +1,4 @@
+-- Graphs, what changes make of them, and what holds of both.
+pub mod Graphs
+pub mod Changes
+pub mod Laws

@@ -1,0 +1,3 @@
+-- Keys of posting lists, keys by which commits conflict, and records.
+pub mod Keys
+pub mod Conflicts

@@ -1,0 +1,3 @@
+pub mod MadeOrders
+pub mod Sets
+pub mod Places
