@@ -4,6 +4,7 @@
 mod conflict;
 mod key;
 mod record;
+mod tablet;
 mod text;
 mod token;
 

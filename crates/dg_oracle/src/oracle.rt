@@ -1,6 +1,6 @@
 // One counter of timestamps, the active starts, and the keys of commits.
 ghost use Rattle.std.specs.Bool.{OnFalse};
-ghost use Rattle.std.specs.Prelude.{◌≡◌, ◌+◌, ◌-◌, ◌^◌, ◌<◌, ◌≤◌, ◌↔◌, [], ◌∷◌, ◌++◌, IsTrue, IfOk, OnOk, OnErr, IfErr, IfSome, IfNone};
+ghost use Rattle.std.specs.Prelude.{◌≡◌, ◌+◌, ◌-◌, ◌^◌, ◌<◌, ◌≤◌, ◌↔◌, ℕ, List, [], ◌∷◌, ◌++◌, IsTrue, IfOk, OnOk, OnErr, IfErr, IfSome, IfNone};
 ghost use Rattle.std.specs.List.Sorted.{IsSorted};
 ghost use Rattle.dg_oracle.specs.Commits.{IsOracle, is_active, begun, committed, ended, two_drawn, below_first, purged};
 ghost use Rattle.dg_oracle.specs.Faults.{IsFaultAt};
@@ -110,6 +110,23 @@ impl<K: Ord> Oracle<K> {
         }
         self.next = next + 2;
         Some((next, next + 1))
+    }
+
+    /// The next timestamp that would be drawn.
+    pub fn next(&self) -> u64
+        ensures next { result ≡ self.now.next }
+        ensures valid { IsOracle self.now }
+    {
+        self.next
+    }
+
+    /// The least active start; none exactly where no transaction is active.
+    pub fn first_active(&self) -> Option<u64>
+        ensures some { IfSome result (λ start. (starts : List ℕ) × (self.now.active ≡ start ∷ starts)) }
+        ensures none { IfNone result (self.now.active ≡ []) }
+        ensures valid { IsOracle self.now }
+    {
+        self.active.first().copied()
     }
 
     /// The line that a purge may take now: the number below the least active start, or, where no transaction is

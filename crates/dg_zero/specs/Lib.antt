@@ -1,0 +1,13 @@
+-- Which histories are legal, and what a history says at each place.
+pub mod Counters
+pub mod Worlds
+pub mod Listings
+pub mod Places
+pub mod Verdicts
+pub mod Offers
+pub mod Legal
+pub mod Laws
+pub mod Pasts
+pub mod Records
+pub mod States
+pub mod Altering

@@ -1,0 +1,158 @@
+// The state, and the calls that begin, end and read.
+ghost use Rattle.std.specs.Prelude.{◌≡◌, ◌^◌, ◌<◌, ◌≤◌, [], true, IfOk, IfErr, OnOk, OnErr, option_copied, if◌then◌else◌};
+ghost use Rattle.std.specs.Arc.{arc_value};
+ghost use Rattle.dg_oracle.specs.Commits.{is_active};
+ghost use Rattle.dg_zero.specs.Counters.{next, active, starts_of, is_active_of};
+ghost use Rattle.dg_zero.specs.Legal.{IsLegal};
+ghost use Rattle.dg_zero.specs.Records.{next_record};
+ghost use Rattle.dg_zero.specs.States.{and_then, owners, IsBeginFault};
+ghost use Rattle.dg_zero.specs.Worlds.{schema};
+
+use crate::past::{Past, append};
+use crate::place::Place;
+use crate::stream::record_after;
+use crate::{Event, Owners, Slip, ZeroFault};
+use dg_keys::{ConflictKey, Record};
+use dg_oracle::Oracle;
+use dg_schema::Schema;
+use dg_turn::Logged;
+use dg_values::{Mem, OutOfMemory};
+use std::alloc::Global;
+use std::marker::Model;
+use std::sync::Arc;
+
+/// All that happened, and where it leads. Contracts see the number of groups and the history, which is legal.
+///
+/// The history stands in memory whole. Beside it stand the next timestamp, the active starts and the keys of commits
+/// (in the oracle), the present schema and owners, which a begin shares, and the tablets.
+#[derive(Drop)]
+pub struct ZeroState {
+    pub(crate) alloc: Global,
+    pub(crate) groups: u32,
+    pub(crate) oracle: Oracle<ConflictKey>,
+    pub(crate) schema: Arc<Schema>,
+    pub(crate) tablets: Vec<Place>,
+    pub(crate) owners: Arc<Owners>,
+    pub(crate) past: Past,
+}
+
+impl Model for ZeroState {
+    ghost use Rattle.std.specs.Arc.{arc_value};
+    ghost use Rattle.dg_zero.specs.Pasts.{entries};
+    ghost use Rattle.dg_zero.specs.States.{Zero, IsKept};
+
+    ghost Value = { Zero };
+
+    ghost view = { λ z. record { groups = z.groups; history = entries z.past } };
+
+    ghost invariant = { λ z. IsKept z.groups z.oracle (arc_value z.schema) z.tablets.items (arc_value z.owners) (entries z.past) };
+}
+
+impl Logged for ZeroState {
+    type Entry = crate::Entry;
+
+    ghost history = { λ z. z.history };
+
+    ghost author = { λ e. e.author };
+}
+
+/// What a transaction begins with: its start, and the schema and the owners there.
+#[derive(Drop)]
+pub struct Begun {
+    pub start: u64,
+    pub schema: Arc<Schema>,
+    pub owners: Arc<Owners>,
+}
+
+impl ZeroState {
+    /// Nothing has happened, with so many groups.
+    pub fn new(alloc: Global, groups: u32) -> Mem<ZeroState>
+        requires least { 1 ≤ groups }
+        requires most { groups ≤ 16 }
+        ensures new { IfOk result (λ z. z ≡ record { groups = groups; history = [] }) }
+    {
+        Ok(ZeroState {
+            alloc,
+            groups,
+            oracle: Oracle::starting_at(alloc, 1)?,
+            schema: Arc::new(alloc, Schema::new(alloc))?,
+            tablets: Vec::new(alloc),
+            owners: Arc::new(alloc, Owners::none(alloc))?,
+            past: Past::Empty,
+        })
+    }
+
+    // What a transaction begins with, but for its start: nothing is copied.
+    fn shared(&self) -> Mem<(Arc<Schema>, Arc<Owners>)>
+        ensures schema { IfOk result (λ s. arc_value s.0 ≡ schema self.now.history) }
+        ensures owners { IfOk result (λ s. arc_value s.1 ≡ owners self.now.history) }
+    {
+        let schema = Arc::try_clone(&self.schema)?;
+        let owners = Arc::try_clone(&self.owners)?;
+        Ok((schema, owners))
+    }
+
+    /// Draws a start, whose transaction is active from then on. After an error nothing has changed, and a look is
+    /// appended.
+    pub fn begin(&mut self, slip: Slip) -> Result<Begun, ZeroFault>
+        ensures start { IfOk result (λ b. b.start ≡ next self.old.history) }
+        ensures schema { IfOk result (λ b. arc_value b.schema ≡ schema self.old.history) }
+        ensures owners { IfOk result (λ b. arc_value b.owners ≡ owners self.old.history) }
+        ensures ok { OnOk result (self.new ≡ and_then self.old slip (Event.Begin (next self.old.history))) }
+        ensures not_spent { OnOk result (next self.old.history < 2 ^ 62) }
+        ensures fault { IfErr result (IsBeginFault (next self.old.history)) }
+        ensures err { OnErr result (self.new ≡ and_then self.old slip Event.Look) }
+        ensures legal { IsLegal self.new.groups self.new.history }
+    {
+        let Ok((schema, owners)) = self.shared() else {
+            append(&mut self.past, slip, Event::Look);
+            return Err(ZeroFault::OutOfMemory);
+        };
+        match self.oracle.begin() {
+            Ok(start) => {
+                append(&mut self.past, slip, Event::Begin { start });
+                Ok(Begun {
+                    start,
+                    schema,
+                    owners,
+                })
+            }
+            Err(fault) => {
+                append(&mut self.past, slip, Event::Look);
+                Err(ZeroFault::from(fault))
+            }
+        }
+    }
+
+    /// Ends a transaction, and says whether it was active; where it wasn't, a look is appended. It takes no memory.
+    pub fn end(&mut self, slip: Slip, start: u64) -> bool
+        requires author { is_active (starts_of (active self.old.history)) start ≡ true → is_active_of (active self.old.history) start slip ≡ true }
+        ensures was_active { result ≡ is_active (starts_of (active self.old.history)) start }
+        ensures history { self.new ≡ and_then self.old slip (if result then Event.End start else Event.Look) }
+        ensures legal { IsLegal self.new.groups self.new.history }
+    {
+        if self.oracle.end(start) {
+            append(&mut self.past, slip, Event::End { start });
+            true
+        } else {
+            append(&mut self.past, slip, Event::Look);
+            false
+        }
+    }
+
+    /// Changes nothing, and appends a look. It takes no memory.
+    pub fn look(&mut self, slip: Slip)
+        ensures history { self.new ≡ and_then self.old slip Event.Look }
+        ensures legal { IsLegal self.new.groups self.new.history }
+    {
+        append(&mut self.past, slip, Event::Look);
+    }
+
+    /// The first record above a timestamp; none exactly where there is none. It appends nothing and takes no memory,
+    /// and costs by the entries since.
+    pub fn next_record(&self, after: u64) -> Option<&Record>
+        ensures { option_copied result ≡ next_record self.now.history after }
+    {
+        record_after(&self.past, after)
+    }
+}
