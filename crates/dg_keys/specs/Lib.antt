@@ -1,3 +1,4 @@
 -- Keys of posting lists, keys by which commits conflict, and records.
 pub mod Keys
 pub mod Conflicts
+pub mod KeyOrder
