@@ -22,9 +22,15 @@ pub enum ConflictKey {
         s: Option<u64>,
     },
     /// The number of objects of `s`.
-    Count { p: Str, s: u64 },
+    Count {
+        p: Str,
+        s: u64,
+    },
     /// The number of subjects that point to `o`.
-    RCount { p: Str, o: u64 },
+    RCount {
+        p: Str,
+        o: u64,
+    },
 }
 
 impl ConflictKey {
