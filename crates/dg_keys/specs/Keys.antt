@@ -1,5 +1,5 @@
 -- The order of keys, and the parts of a record.
-use Rattle.std.specs.Prelude.{ℕ, List, [], filter, flat_map}
+use Rattle.std.specs.Prelude.{ℕ, List, filter, flat_map}
 use Rattle.std.specs.List.{AllByRecursion}
 use Rattle.std.specs.declared.cmp.Ordering.{Ordering}
 use Rattle.std.specs.Ordering.{nat_cmp, ordering_then, is_eq}

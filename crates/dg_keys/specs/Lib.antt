@@ -1,4 +1,5 @@
 -- Keys of posting lists, keys by which commits conflict, and records.
 pub mod Keys
 pub mod Conflicts
+pub mod KeyOrder
 pub mod Tablets

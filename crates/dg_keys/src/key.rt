@@ -86,8 +86,11 @@ impl Key {
 /// By predicate, kind, and then node, number or token.
 impl InOrder for Key {
     ghost use Rattle.dg_keys.specs.Keys.{key_cmp};
+    ghost use Rattle.dg_keys.specs.KeyOrder.{key_order};
 
     ghost order = { key_cmp };
+
+    ghost total = { key_order };
 
     fn compare(&self, other: &Key) -> Ordering {
         self.pred()
@@ -95,6 +98,4 @@ impl InOrder for Key {
             .then(self.rank().cmp(&other.rank()))
             .then(self.compare_fields(other))
     }
-
-    ghost total = { ? };
 }

@@ -3,13 +3,15 @@
 
 mod conflict;
 mod key;
+mod order;
 mod record;
 mod tablet;
 mod text;
 mod token;
 
-pub use conflict::{ConflictKey, cmp_conflict, copy_keys};
+pub use conflict::{ConflictKey, copy_keys};
 pub use key::Key;
+pub use order::cmp_conflict;
 pub use record::{Part, Record, Tablet};
 pub use text::conflict_text;
 

@@ -1,0 +1,2 @@
+-- Lemmas on keys.
+pub mod Ascents
