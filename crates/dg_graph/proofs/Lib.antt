@@ -1,0 +1,3 @@
+-- Laws of graphs and changes, which crates above cite.
+pub mod GraphLaws
+pub mod ObjectLaws
