@@ -5,7 +5,7 @@ use Rattle.std.specs.List.{AllByRecursion}
 use Rattle.std.specs.declared.cmp.Ordering.{Ordering}
 use Rattle.std.specs.declared.cmp.Ordering.TheVariants.{Less, Equal, Greater}
 use Rattle.std.specs.Ordering.{nat_cmp, ordering_then, is_eq}
-use Rattle.dg_values.specs.Order.{text_cmp, posting_cmp, IsOrder}
+use Rattle.dg_values.specs.Order.{text_cmp, posting_cmp}
 use Rattle.dg_values.specs.Ascending.{Ascends, has, with_one}
 use Rattle.dg_values.specs.declared.value.Posting.{Posting}
 use Rattle.dg_values.proofs.OrderLaws.{posting_order}
