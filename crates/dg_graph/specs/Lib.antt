@@ -2,3 +2,4 @@
 pub mod Graphs
 pub mod Changes
 pub mod Laws
+pub mod Subjects

@@ -4,6 +4,7 @@
 mod change;
 mod graph;
 mod laws;
+mod runs;
 
 pub use change::{Change, Triple};
 pub use graph::Graph;

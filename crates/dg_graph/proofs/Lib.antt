@@ -1,0 +1,4 @@
+-- Laws of graphs and changes, which crates above cite.
+pub mod GraphLaws
+pub mod ObjectLaws
+pub mod SubjectRuns
