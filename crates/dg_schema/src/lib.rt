@@ -2,9 +2,11 @@
 #![tactic(auto)]
 
 mod definition;
+mod laws;
 mod schema;
 
 pub use definition::PredDef;
+pub use laws::definitions_join;
 pub use schema::Schema;
 
 #[cfg(test)]

@@ -1,6 +1,7 @@
 // Definitions with distinct names.
-ghost use Rattle.std.specs.Prelude.{◌≡◌, [], IfOk, option_copied};
-ghost use Rattle.dg_schema.specs.Definitions.{definition_of, is_named, with_definitions, AreDistinct};
+ghost use Rattle.std.specs.Prelude.{◌≡◌, false, fold, [], ◌∷◌, ◌++◌, IfOk, OnOk, option_copied};
+ghost use Rattle.dg_schema.specs.Definitions.{definition_of, is_declared, is_named, with_definitions, AreDistinct};
+ghost use Rattle.dg_schema.specs.Joined.{newest, renewed, with_missing};
 
 use crate::PredDef;
 use dg_values::{Mem, OutOfMemory};
@@ -10,6 +11,7 @@ use std::marker::Model;
 /// Definitions with distinct names. Contracts see them in the order in which they were declared.
 #[derive(Debug, Drop)]
 pub struct Schema {
+    alloc: Global,
     definitions: Vec<PredDef>,
 }
 
@@ -39,14 +41,53 @@ fn named<'a>(definitions: &'a [PredDef], name: &str) -> Option<&'a PredDef>
     definitions.iter().find(|d| is_named(d, name))
 }
 
+// The newer definition of the same name, or else the older one.
+fn newest<'a>(newer: &'a Schema, older: &'a PredDef) -> &'a PredDef
+    ensures { result.now ≡ newest newer.now older.now }
+{
+    newer.lookup(older.name.as_str()).unwrap_or(older)
+}
+
+// Copies of the older definitions, each with its newer namesake in its place.
+fn renewed(alloc: Global, newer: &Schema, older: &[PredDef]) -> Mem<Vec<PredDef>>
+    ensures { IfOk result (λ definitions. definitions.items ≡ renewed newer.now older.now) }
+{
+    let mut definitions = Vec::with_capacity(alloc, older.len())?;
+    for definition in older {
+        definitions.push(newest(newer, definition).copy(alloc)?)?;
+    }
+    Ok(definitions)
+}
+
+// Copies of definitions.
+fn copies(alloc: Global, definitions: &[PredDef]) -> Mem<Vec<PredDef>>
+    ensures { IfOk result (λ copies. copies.items ≡ definitions.now) }
+{
+    let mut copies = Vec::with_capacity(alloc, definitions.len())?;
+    for definition in definitions {
+        copies.push(definition.copy(alloc)?)?;
+    }
+    Ok(copies)
+}
+
 impl Schema {
     /// No definition. It takes no memory.
     pub fn new(alloc: Global) -> Schema
         ensures { result ≡ [] }
     {
         Schema {
+            alloc,
             definitions: Vec::new(alloc),
         }
+    }
+
+    /// This one definition.
+    pub fn single(alloc: Global, definition: PredDef) -> Mem<Schema>
+        ensures { IfOk result (λ schema. schema ≡ definition ∷ []) }
+    {
+        let mut schema = Schema::new(alloc);
+        schema.add(definition)?;
+        Ok(schema)
     }
 
     /// The definitions, in the order in which they were declared.
@@ -64,10 +105,52 @@ impl Schema {
         named(self.definitions.as_slice(), name)
     }
 
+    /// An equal schema.
+    pub fn copy(&self) -> Mem<Schema>
+        ensures { IfOk result (λ schema. schema ≡ self.now) }
+    {
+        Ok(Schema {
+            alloc: self.alloc,
+            definitions: copies(self.alloc, self.definitions.as_slice())?,
+        })
+    }
+
     /// The older definitions, with each newer one added or put in its namesake's place. The old schema stays.
     pub fn with(&self, newer: &Schema) -> Mem<Schema>
         ensures { IfOk result (λ schema. schema ≡ with_definitions self.now newer.now) }
     {
-        Err(OutOfMemory)
+        let mut schema = self.renewed(newer)?;
+        schema.add_missing(newer.definitions())?;
+        Ok(schema)
+    }
+
+    // The definitions in their places, each with its newer namesake there.
+    fn renewed(&self, newer: &Schema) -> Mem<Schema>
+        ensures { IfOk result (λ schema. schema ≡ renewed newer.now self.now) }
+    {
+        Ok(Schema {
+            alloc: self.alloc,
+            definitions: renewed(self.alloc, newer, self.definitions.as_slice())?,
+        })
+    }
+
+    // Adds those definitions whose names aren't declared.
+    fn add_missing(&mut self, definitions: &[PredDef]) -> Mem<()>
+        ensures ok { OnOk result (self.new ≡ fold with_missing self.old definitions.now) }
+    {
+        for definition in definitions {
+            if self.lookup(definition.name.as_str()).is_none() {
+                self.add(definition.copy(self.alloc)?)?;
+            }
+        }
+        Ok(())
+    }
+
+    // Adds a definition whose name isn't declared.
+    fn add(&mut self, definition: PredDef) -> Mem<()>
+        requires missing { is_declared self.old definition.name ≡ false }
+        ensures ok { OnOk result (self.new ≡ self.old ++ definition ∷ []) }
+    {
+        Ok(self.definitions.push(definition)?)
     }
 }
