@@ -1,5 +1,5 @@
 -- What an oracle keeps, and what each call makes of it.
-use Rattle.std.specs.Prelude.{◌≡◌, ℕ, ◌<◌, ◌≤◌, ◌+◌, ◌-◌, ◌^◌, Bool, false, nat_lt, List, [], ◌∷◌, ◌++◌, filter, map, max, not, ◌==◌}
+use Rattle.std.specs.Prelude.{◌≡◌, ℕ, ◌<◌, ◌≤◌, ◌+◌, ◌-◌, ◌^◌, Bool, false, nat_lt, List, [], ◌∷◌, ◌++◌, filter, map, max, not, ◌==◌, Option, Some, None}
 use Rattle.std.specs.List.{list_any, AllByRecursion}
 
 -- the keys that were committed at a timestamp
@@ -65,6 +65,11 @@ ended o start = record { next = o.next; active = without o.active start; commits
 -- after two timestamps are drawn
 abbrev pub two_drawn : {K : Type 0} → OracleState K → OracleState K
 two_drawn o = record { next = o.next + 2; active = o.active; commits = o.commits; line = o.line }
+
+-- the first of these starts, which is the least of them, since they ascend
+abbrev pub first_start : List ℕ → Option ℕ
+first_start [] = None
+first_start (start ∷ starts) = Some start
 
 -- the number below the first of these starts, or else the last timestamp
 abbrev pub below_first : List ℕ → ℕ → ℕ

@@ -1,8 +1,8 @@
 // One counter of timestamps, the active starts, and the keys of commits.
 ghost use Rattle.std.specs.Bool.{OnFalse};
-ghost use Rattle.std.specs.Prelude.{◌≡◌, ◌+◌, ◌-◌, ◌^◌, ◌<◌, ◌≤◌, ◌↔◌, ℕ, List, [], ◌∷◌, ◌++◌, IsTrue, IfOk, OnOk, OnErr, IfErr, IfSome, IfNone};
+ghost use Rattle.std.specs.Prelude.{◌≡◌, ◌+◌, ◌-◌, ◌^◌, ◌<◌, ◌≤◌, ◌↔◌, [], ◌∷◌, ◌++◌, IsTrue, IfOk, OnOk, OnErr, IfErr, IfSome, IfNone};
 ghost use Rattle.std.specs.List.Sorted.{IsSorted};
-ghost use Rattle.dg_oracle.specs.Commits.{IsOracle, is_active, begun, committed, ended, two_drawn, below_first, purged};
+ghost use Rattle.dg_oracle.specs.Commits.{IsOracle, is_active, begun, committed, ended, two_drawn, first_start, below_first, purged};
 ghost use Rattle.dg_oracle.specs.Faults.{IsFaultAt};
 ghost use Rattle.dg_oracle.specs.Verdicts.{verdict, IsVerdict, HasSameVerdicts};
 
@@ -122,11 +122,13 @@ impl<K: Ord> Oracle<K> {
 
     /// The least active start; none exactly where no transaction is active.
     pub fn first_active(&self) -> Option<u64>
-        ensures some { IfSome result (λ start. (starts : List ℕ) × (self.now.active ≡ start ∷ starts)) }
-        ensures none { IfNone result (self.now.active ≡ []) }
+        ensures first { result ≡ first_start self.now.active }
         ensures valid { IsOracle self.now }
     {
-        self.active.first().copied()
+        match self.active.first() {
+            Some(start) => Some(*start),
+            None => None,
+        }
     }
 
     /// The line that a purge may take now: the number below the least active start, or, where no transaction is

@@ -119,7 +119,7 @@ alter_of old newer parts = events.Alter (next old.history) newer (alter_record o
 
 -- the start is active, and none is less
 pub record IsLeastStart (history : List Entry) (start : ℕ) : Type 0 where
-  pub active : is_active (starts_of (active history)) start ≡ true
+  pub found : is_active (starts_of (active history)) start ≡ true
   pub least : AllByRecursion (λ s. start ≤ s) (starts_of (active history))
 
 -- the first of these definitions, in their order, whose tablet is held
