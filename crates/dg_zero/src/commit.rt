@@ -86,14 +86,14 @@ impl ZeroState {
         ensures legal { IsLegal self.new.groups self.new.history }
     {
         match self.oracle.commit(offer.start, copied) {
+            Err((fault, _)) => {
+                append(&mut self.past, slip, Event::Look);
+                return Err(refused_draw(fault, offer));
+            }
             Ok(ts) => {
                 let event = written(self.alloc, offer, ts);
                 append(&mut self.past, slip, event);
                 Ok(ts)
-            }
-            Err((fault, _)) => {
-                append(&mut self.past, slip, Event::Look);
-                Err(refused_draw(fault, offer))
             }
         }
     }

@@ -1,0 +1,30 @@
+use Rattle.std.proofs.Common.{◌≡◌, ◌<◌, ◌∙◌, length, List, ap, get_or, arith}
+use Rattle.std.specs.Arc.{arc_value}
+use Rattle.dg_keys.specs.declared.conflict.ConflictKey.{ConflictKey}
+use Rattle.dg_zero.specs.Pasts.{entries}
+use Rattle.dg_zero.specs.States.{Zero}
+use Rattle.dg_zero.proofs.Committing.{place_within, refused}
+use Rattle.dg_zero.proofs.zero.ZeroState.refuse.Goals as goal
+
+pub swap_remove-key-requires : goal.swap_remove-key-requires
+swap_remove-key-requires c =
+    let e : length c.into_vec-keys.result.items ≡ length c.args.offer.keys = ap (λ (ks : List ConflictKey). length ks) c.into_vec-keys.ensures in
+    let lt : c.args.at < length c.args.offer.keys = place_within c.args.self.now.history c.args.offer.start c.args.offer.keys c.args.at c.args.ts c.requires.judged in
+    omega (arith, c.into_vec-keys.result.ok)
+
+pub swap_remove-requires : goal.swap_remove-requires
+swap_remove-requires c =
+    let e : length c.args.copied.items ≡ length c.args.offer.keys = ap (λ (ks : List ConflictKey). length ks) c.requires.copied in
+    let lt : c.args.at < length c.args.offer.keys = place_within c.args.self.now.history c.args.offer.start c.args.offer.keys c.args.at c.args.ts c.requires.judged in
+    omega (arith, c.args.copied.ok)
+
+pub invariant_of-self : goal.invariant_of-self
+invariant_of-self c = rw c.end.ensures.ended (refused c.self.inside.groups c.self.inside.oracle (arc_value c.self.inside.schema) c.self.inside.tablets.items (arc_value c.self.inside.owners) (entries c.self.inside.past) c.args.self.now.history (ap (λ (z : Zero). z.history) c.self.view_is) c.args.slip c.args.offer c.self.invariant c.requires.active c.args.at c.args.ts c.swap_remove-key.result c.swap_remove.result _ c.requires.judged (c.swap_remove-key.ensures.value ∙ ap (λ (ks : List ConflictKey). get_or ks c.args.at c.swap_remove-key.result) c.into_vec-keys.ensures) (c.swap_remove.ensures.value ∙ ap (λ (ks : List ConflictKey). get_or ks c.args.at c.swap_remove.result) c.requires.copied) c.append.ensures).0
+
+pub returns-clause-fault : goal.returns-clause-fault
+returns-clause-fault c =
+    let all = refused c.self.inside.groups c.self.inside.oracle (arc_value c.self.inside.schema) c.self.inside.tablets.items (arc_value c.self.inside.owners) (entries c.self.inside.past) c.args.self.now.history (ap (λ (z : Zero). z.history) c.self.view_is) c.args.slip c.args.offer c.self.invariant c.requires.active c.args.at c.args.ts c.swap_remove-key.result c.swap_remove.result _ c.requires.judged (c.swap_remove-key.ensures.value ∙ ap (λ (ks : List ConflictKey). get_or ks c.args.at c.swap_remove-key.result) c.into_vec-keys.ensures) (c.swap_remove.ensures.value ∙ ap (λ (ks : List ConflictKey). get_or ks c.args.at c.swap_remove.result) c.requires.copied) c.append.ensures in
+    (all.1, λ i. record { groups = (c.self.view_is i).groups; history = all.2 i })
+
+pub returns-clause-legal : goal.returns-clause-legal
+returns-clause-legal c = (refused c.self.inside.groups c.self.inside.oracle (arc_value c.self.inside.schema) c.self.inside.tablets.items (arc_value c.self.inside.owners) (entries c.self.inside.past) c.args.self.now.history (ap (λ (z : Zero). z.history) c.self.view_is) c.args.slip c.args.offer c.self.invariant c.requires.active c.args.at c.args.ts c.swap_remove-key.result c.swap_remove.result _ c.requires.judged (c.swap_remove-key.ensures.value ∙ ap (λ (ks : List ConflictKey). get_or ks c.args.at c.swap_remove-key.result) c.into_vec-keys.ensures) (c.swap_remove.ensures.value ∙ ap (λ (ks : List ConflictKey). get_or ks c.args.at c.swap_remove.result) c.requires.copied) c.append.ensures).0.legal
