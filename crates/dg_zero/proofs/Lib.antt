@@ -5,3 +5,4 @@ pub mod Operations
 pub mod SoundOffers
 pub mod NewDefinitions
 pub mod LawfulGraphs
+pub mod RecordsInTurn
