@@ -1,4 +1,11 @@
 pub mod Histories
+pub mod LawsOfHistories
+pub mod SchemasStay
+pub mod Operations
+pub mod SoundOffers
+pub mod NewDefinitions
+pub mod LawfulGraphs
+pub mod RecordsInTurn
 pub mod Kept
 pub mod Refusals
 pub mod Committing
