@@ -34,7 +34,7 @@ pub enum ConflictKey {
 }
 
 impl ConflictKey {
-    /// An equal key.
+    /// An equal key. The error is want of memory.
     pub fn copy(&self, alloc: Global) -> Mem<ConflictKey>
         ensures { IfOk result (λ key. key ≡ self.now) }
     {
@@ -71,7 +71,7 @@ fn copy_object(alloc: Global, object: &Option<Posting>) -> Mem<Option<Posting>>
     }
 }
 
-/// Equal keys, in the same order.
+/// Equal keys, in the same order. The error is want of memory.
 pub fn copy_keys(alloc: Global, keys: &[ConflictKey]) -> Mem<Vec<ConflictKey>>
     ensures { IfOk result (λ copied. copied.items ≡ keys.now) }
 {

@@ -25,7 +25,7 @@ pub enum Key {
 }
 
 impl Key {
-    /// An equal key.
+    /// An equal key. The error is want of memory.
     pub fn copy(&self, alloc: Global) -> Mem<Key>
         ensures { IfOk result (λ key. key ≡ self.now) }
     {

@@ -24,10 +24,8 @@ fn value_text(alloc: Global, value: &Value) -> Mem<Str>
     let mut plain = Str::from_str(alloc, "")?;
     write_value(alloc, &mut plain, value)?;
     match value {
-        Value::Int(_) => Ok(plain),
-        Value::Text(_) => quote(alloc, plain),
-        Value::Bool(_) => Ok(plain),
-        Value::Time(_) => quote(alloc, plain),
+        Value::Int(_) | Value::Bool(_) => Ok(plain),
+        Value::Text(_) | Value::Time(_) => quote(alloc, plain),
     }
 }
 
@@ -118,7 +116,9 @@ fn key_text(alloc: Global, key: &ConflictKey) -> Mem<Str>
     }
 }
 
-/// Appends the text of a key: its kind, predicate, and token or node. After an error the text is as before.
+/// Appends the text of a key: its kind, predicate, and token or node, with a blank between any two. Nodes are in
+/// hexadecimal behind `0x`; numbers and truth values print plain, texts and times as strings of JSON. After an error
+/// the text is as before.
 pub fn conflict_text(alloc: Global, out: &mut Str, key: &ConflictKey) -> Mem<()>
     ensures ok { OnOk result (out.new ≡ out.old ++ conflict_text key.now) }
     ensures err { OnErr result (out.new ≡ out.old) }
