@@ -14,7 +14,7 @@ use std::cmp::Ordering;
 fn compare_subject(triple: &Triple, p: &str, s: u64) -> Ordering
     ensures { result ≡ subject_cmp p.now s triple.now }
 {
-    triple.p.as_str().cmp(p).then(triple.s.cmp(&s))
+    triple.p.as_str().cmp(p).then_with(|| triple.s.cmp(&s))
 }
 
 // How many triples come before those of a subject.

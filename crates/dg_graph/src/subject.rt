@@ -26,7 +26,7 @@ pub fn is_single(schema: &Schema, p: &str) -> bool
 pub fn is_of_subject(p: &str, s: u64, triple: &Triple) -> bool
     ensures { result ≡ is_of_subject p.now s triple.now }
 {
-    triple.p.as_str().cmp(p).is_eq() && triple.s == s
+    triple.s == s && triple.p.as_str().cmp(p).is_eq()
 }
 
 // Copies of the objects of triples.
