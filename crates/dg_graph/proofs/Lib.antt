@@ -2,3 +2,4 @@
 pub mod GraphLaws
 pub mod ObjectLaws
 pub mod SubjectRuns
+mod EitherWay

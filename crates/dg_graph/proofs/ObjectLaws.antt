@@ -87,7 +87,7 @@ objects_ascend (t ∷ graph) p s a = by (is_of_subject p s t) refl (objects_asce
 
 -- ---- objects after a change
 
-own_ascends : (schema : List PredDef) (os : List Posting) (change : Change) → Ascends posting_cmp os → Ascends posting_cmp (own_objects_after schema os change)
+pub own_ascends : (schema : List PredDef) (os : List Posting) (change : Change) → Ascends posting_cmp os → Ascends posting_cmp (own_objects_after schema os change)
 own_ascends schema os (Set t) a = elim (is_single schema t.p) as (λ v. Ascends posting_cmp (cond v (t.o ∷ []) (with_one posting_cmp os t.o))) [ true ↦ (tt, tt) | false ↦ ascends_with posting_cmp posting_order os t.o a ]
 own_ascends schema os (Del t) a = ascends_passed posting_cmp posting_order (λ w. not (is_eq (posting_cmp w t.o))) os a
 

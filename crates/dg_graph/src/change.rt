@@ -67,8 +67,8 @@ impl InOrder for Triple {
     fn compare(&self, other: &Triple) -> Ordering {
         self.p
             .compare(&other.p)
-            .then(self.s.cmp(&other.s))
-            .then(self.o.compare(&other.o))
+            .then_with(|| self.s.cmp(&other.s))
+            .then_with(|| self.o.compare(&other.o))
     }
 
     ghost total = { then_order (λ (t : Triple). t.p) (λ t. (t.s, t.o)) text_cmp (λ a b. ordering_then (nat_cmp a.0 b.0) (posting_cmp a.1 b.1)) text_order (then_order (λ (q : ℕ × Posting). q.0) (λ q. q.1) nat_cmp posting_cmp nat_order posting_order (λ x y e f. λ i. (e i, f i))) (λ x y e f. λ i. record { s = (f i).0; p = e i; o = (f i).1 }) };

@@ -1,11 +1,15 @@
 // The plain graph.
 ghost use Rattle.std.specs.Prelude.{◌≡◌, [], IfOk, OnOk, OnErr};
-ghost use Rattle.dg_values.specs.Ascending.{Ascends};
-ghost use Rattle.dg_graph.specs.Graphs.{triple_cmp, after_change};
+ghost use Rattle.dg_values.specs.Ascending.{Ascends, with_one};
+ghost use Rattle.dg_values.specs.Order.{posting_cmp};
+ghost use Rattle.dg_graph.specs.Graphs.{triple_cmp, cleared, after_change, objects};
 
-use crate::{Change, Triple};
+use crate::runs::{of_subject, put_alone};
+use crate::subject::copied_objects;
+use crate::{Change, Triple, is_single};
 use dg_schema::Schema;
-use dg_values::{Mem, OutOfMemory};
+use dg_sets::{put, take_out};
+use dg_values::{Mem, OutOfMemory, Posting};
 use std::alloc::Global;
 use std::marker::Model;
 
@@ -27,6 +31,21 @@ impl Model for Graph {
     ghost view = { λ g. g.triples.items };
 
     ghost invariant = { λ g. Ascends triple_cmp g.triples.items };
+}
+
+// Puts a triple in, in the place of its subject's others where the predicate is declared as no list. After an error
+// the triples are as before.
+fn set(triples: &mut Vec<Triple>, schema: &Schema, triple: Triple) -> Mem<()>
+    requires ascend { Ascends triple_cmp triples.old.items }
+    ensures ok { OnOk result (triples.new.items ≡ with_one triple_cmp (cleared schema.now triples.old.items triple) triple) }
+    ensures err { OnErr result (triples.new.items ≡ triples.old.items) }
+    ensures ascends { Ascends triple_cmp triples.new.items }
+{
+    if is_single(schema, triple.p.as_str()) {
+        put_alone(triples, triple)
+    } else {
+        put(triples, triple)
+    }
 }
 
 impl Graph {
@@ -54,6 +73,20 @@ impl Graph {
         ensures ok { OnOk result (self.new ≡ after_change schema.now self.old change.now) }
         ensures err { OnErr result (self.new ≡ self.old) }
     {
-        Err(OutOfMemory)
+        match change {
+            Change::Set(triple) => set(&mut self.triples, schema, triple.copy(self.alloc)?),
+            Change::Del(triple) => {
+                take_out(&mut self.triples, triple);
+                Ok(())
+            }
+        }
+    }
+
+    /// The objects of a subject, copied, in ascending order. It looks by halves.
+    pub fn objects(&self, alloc: Global, p: &str, s: u64) -> Mem<Vec<Posting>>
+        ensures items { IfOk result (λ v. v.items ≡ objects self.now p.now s) }
+        ensures ascend { IfOk result (λ v. Ascends posting_cmp v.items) }
+    {
+        copied_objects(alloc, of_subject(self.triples.as_slice(), p, s))
     }
 }
