@@ -1,6 +1,6 @@
 -- Definitions that are added to older ones.
 use Rattle.std.proofs.Common.{◌≡◌, ℕ, Bool, true, false, not, cond, List, [], ◌∷◌, ◌++◌, Option, Some, None, refl, ap, sym, ◌∙◌, append_assoc}
-use Rattle.std.specs.Prelude.{find, is_some, map, fold, filter, option_map, unwrap_or}
+use Rattle.std.specs.Prelude.{is_some, map, fold, filter, option_map, unwrap_or}
 use Rattle.std.specs.List.{AllByRecursion}
 use Rattle.std.specs.Option.{option_or}
 use Rattle.dg_values.specs.Order.{same_text}
@@ -8,7 +8,7 @@ use Rattle.dg_schema.specs.declared.definition.PredDef.{PredDef}
 use Rattle.dg_schema.specs.Definitions.{is_named, AreDistinct, definition_of, is_declared, replaced, with_definition, with_definitions}
 use Rattle.dg_schema.specs.Joined.{newest, renewed, added, with_missing}
 use Rattle.dg_schema.specs.Laws.{names}
-use Rattle.dg_schema.proofs.Names.{same_text-equal, same_text-itself, same_text-turned, found_named, none_found, none_named, definition_of-append, KeepsNames, definition_kept, declared_kept, distinct_kept, distinct_pushed}
+use Rattle.dg_schema.proofs.Names.{same_text-equal, same_text-turned, found_named, none_found, none_named, definition_of-append, KeepsNames, definition_kept, declared_kept, distinct_kept, distinct_pushed}
 
 pub replaced_keeps : (newer : PredDef) → KeepsNames (replaced newer)
 replaced_keeps newer older = by (is_named newer.name older) refl

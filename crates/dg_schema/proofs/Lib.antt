@@ -1,2 +1,3 @@
 pub mod Names
 pub mod Joining
+pub mod ByName

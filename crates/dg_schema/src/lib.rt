@@ -3,6 +3,7 @@
 
 mod definition;
 mod laws;
+mod places;
 mod schema;
 
 pub use definition::PredDef;

@@ -1,9 +1,9 @@
 // Definitions with distinct names.
 ghost use Rattle.std.specs.Prelude.{◌≡◌, false, fold, [], ◌∷◌, ◌++◌, IfOk, OnOk, option_copied};
-ghost use Rattle.dg_schema.specs.Definitions.{definition_of, is_declared, is_named, with_definitions, AreDistinct};
+ghost use Rattle.dg_schema.specs.Definitions.{definition_of, is_declared, with_definitions, AreDistinct};
 ghost use Rattle.dg_schema.specs.Joined.{newest, renewed, with_missing};
 
-use crate::PredDef;
+use crate::{PredDef, places};
 use dg_values::{Mem, OutOfMemory};
 use std::alloc::Global;
 use std::marker::Model;
@@ -13,32 +13,20 @@ use std::marker::Model;
 pub struct Schema {
     alloc: Global,
     definitions: Vec<PredDef>,
+    // The places of the definitions, in ascending order of their names.
+    by_name: Vec<usize>,
 }
 
 impl Model for Schema {
     ghost use Rattle.std.specs.Prelude.{List};
     ghost use Rattle.dg_schema.specs.declared.definition.PredDef.{PredDef};
-    ghost use Rattle.dg_schema.specs.Definitions.{AreDistinct};
+    ghost use Rattle.dg_schema.specs.Places.{IsIndexed};
 
     ghost Value = { List PredDef };
 
     ghost view = { λ s. s.definitions.items };
 
-    ghost invariant = { λ s. AreDistinct s.definitions.items };
-}
-
-// Whether a definition has this name.
-fn is_named(definition: &PredDef, name: &str) -> bool
-    ensures { result ≡ is_named name.now definition.now }
-{
-    definition.name.as_str().cmp(name).is_eq()
-}
-
-// The first definition of this name.
-fn named<'a>(definitions: &'a [PredDef], name: &str) -> Option<&'a PredDef>
-    ensures { option_copied result ≡ definition_of definitions.now name.now }
-{
-    definitions.iter().find(|d| is_named(d, name))
+    ghost invariant = { λ s. IsIndexed s.definitions.items s.by_name.items };
 }
 
 // The newer definition of the same name, or else the older one.
@@ -78,6 +66,7 @@ impl Schema {
         Schema {
             alloc,
             definitions: Vec::new(alloc),
+            by_name: Vec::new(alloc),
         }
     }
 
@@ -98,20 +87,23 @@ impl Schema {
         self.definitions.as_slice()
     }
 
-    /// The definition of a name; none exactly where it isn't declared. It takes no memory.
+    /// The definition of a name; none exactly where it isn't declared. It looks by halves, and takes no memory.
     pub fn lookup<'a>(&'a self, name: &str) -> Option<&'a PredDef>
         ensures { option_copied result ≡ definition_of self.now name.now }
     {
-        named(self.definitions.as_slice(), name)
+        places::named(self.definitions.as_slice(), self.by_name.as_slice(), name)
     }
 
     /// An equal schema.
     pub fn copy(&self) -> Mem<Schema>
         ensures { IfOk result (λ schema. schema ≡ self.now) }
     {
+        let definitions = copies(self.alloc, self.definitions.as_slice())?;
+        let by_name = Vec::from_slice(self.alloc, self.by_name.as_slice())?;
         Ok(Schema {
             alloc: self.alloc,
-            definitions: copies(self.alloc, self.definitions.as_slice())?,
+            definitions,
+            by_name,
         })
     }
 
@@ -128,9 +120,12 @@ impl Schema {
     fn renewed(&self, newer: &Schema) -> Mem<Schema>
         ensures { IfOk result (λ schema. schema ≡ renewed newer.now self.now) }
     {
+        let definitions = renewed(self.alloc, newer, self.definitions.as_slice())?;
+        let by_name = Vec::from_slice(self.alloc, self.by_name.as_slice())?;
         Ok(Schema {
             alloc: self.alloc,
-            definitions: renewed(self.alloc, newer, self.definitions.as_slice())?,
+            definitions,
+            by_name,
         })
     }
 
@@ -151,6 +146,14 @@ impl Schema {
         requires missing { is_declared self.old definition.name ≡ false }
         ensures ok { OnOk result (self.new ≡ self.old ++ definition ∷ []) }
     {
-        Ok(self.definitions.push(definition)?)
+        let place = places::below(
+            self.definitions.as_slice(),
+            self.by_name.as_slice(),
+            definition.name.as_str(),
+        );
+        self.definitions.reserve(1)?;
+        self.by_name.insert(place, self.definitions.len())?;
+        self.definitions.push_reserved(definition);
+        Ok(())
     }
 }

@@ -24,7 +24,10 @@ fn declared(alloc: Global, name: &str, list: bool) -> Mem<Schema> {
 
 // Where a name stands among the definitions.
 fn place(schema: &Schema, name: &str) -> Option<usize> {
-    schema.definitions().iter().position(|d| d.name.as_str() == name)
+    schema
+        .definitions()
+        .iter()
+        .position(|d| d.name.as_str() == name)
 }
 
 #[test]
@@ -50,7 +53,11 @@ fn copies_are_equal(rt: HostRuntime) -> Result<(), Fail> {
     let alloc = rt.alloc();
     let schema = declared(alloc, "name", false)?.copy()?;
     assert_eq!(rt; schema.definitions().len(), 1);
-    assert!(rt; schema.lookup("name").is_some_and(|d| d.count && !d.upsert && d.tokens.len() == 1));
+    assert!(rt;
+        schema
+            .lookup("name")
+            .is_some_and(|d| d.count && !d.upsert && d.tokens.len() == 1)
+    );
     assert_eq!(rt; Schema::new(alloc).definitions().len(), 0);
     Ok(())
 }
