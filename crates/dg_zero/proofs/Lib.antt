@@ -9,3 +9,4 @@ pub mod RecordsInTurn
 pub mod Kept
 pub mod Refusals
 pub mod Committing
+pub mod NewTablets

@@ -4,7 +4,7 @@ use Rattle.std.specs.List.{AllByRecursion, list_any}
 use Rattle.dg_values.specs.declared.kind.Kind.{Kind}
 use Rattle.dg_values.specs.declared.kind.Kind.TheVariants as kinds
 use Rattle.dg_schema.specs.declared.definition.PredDef.{PredDef}
-use Rattle.dg_schema.specs.Definitions.{definition_of, with_definitions}
+use Rattle.dg_schema.specs.Definitions.{definition_of, with_definitions, AreDistinct}
 use Rattle.dg_graph.specs.declared.change.Triple.{Triple}
 use Rattle.dg_graph.specs.Graphs.{is_of}
 use Rattle.dg_keys.specs.declared.conflict.ConflictKey.{ConflictKey}
@@ -56,6 +56,7 @@ pub record FitsAlter (n : ℕ) (history : List Entry) (start : ℕ) (newer : Lis
   pub ts : written.ts ≡ start + 1
   pub drawn : written.ts < 2 ^ 62
   pub none_active : active history ≡ []
+  pub distinct : AreDistinct newer
   pub none_held : AllByRecursion (λ def. is_held (tablets history) def.name ≡ false) newer
   pub kinds : AllByRecursion (λ def. KeepsKind (world history).graph def (definition_of (schema history) def.name)) newer
   pub fresh_are : written.fresh ≡ fresh n (tablets history) newer
