@@ -5,7 +5,7 @@ use Rattle.std.specs.List.{AllByRecursion}
 use Rattle.std.proofs.lemmas.List.{append-nil, map-append}
 use Rattle.std.proofs.lemmas.List.Sums.{fold-append}
 use Rattle.dg_schema.specs.declared.definition.PredDef.{PredDef}
-use Rattle.dg_schema.specs.Definitions.{with_definitions}
+use Rattle.dg_schema.specs.Definitions.{with_definitions, AreDistinct}
 use Rattle.dg_keys.specs.declared.conflict.ConflictKey.{ConflictKey}
 use Rattle.dg_keys.specs.declared.record.Part.{Part}
 use Rattle.dg_keys.specs.declared.record.Tablet.{Tablet}
@@ -20,10 +20,11 @@ use Rattle.dg_zero.specs.declared.place.Place.{Place}
 use Rattle.dg_zero.specs.Counters.{next, Started, active, starts_of, is_active_of}
 use Rattle.dg_zero.specs.Legal.{Fits, FitsAlter, IsReason}
 use Rattle.dg_zero.specs.Offers.{IsSound}
-use Rattle.dg_zero.specs.Places.{Places, places, places_after, tablets, fresh, fresh_place}
-use Rattle.dg_zero.specs.States.{IsKept, and_entry, commit_of, owners_of}
+use Rattle.dg_zero.specs.Places.{Places, places, places_after, tablets, fresh, fresh_place, is_held}
+use Rattle.dg_zero.specs.States.{IsKept, and_entry, commit_of, owners_of, KeepKinds, AreAlterParts}
 use Rattle.dg_zero.specs.Verdicts.{commits, verdict}
 use Rattle.dg_zero.specs.Worlds.{World, empty_world, world, world_after, schema, schema_at, graph_at}
+use Rattle.dg_zero.proofs.Refusals.{not_held}
 use Rattle.dg_zero.proofs.Histories.{next_push, active_push, places_push, commits_push, legal_push, starts_of_ended}
 
 -- ---- the schema and the tablets
@@ -53,6 +54,7 @@ module _ (n : ℕ) (o : oracle.OracleState ConflictKey) (d : List PredDef) (ps :
       let e : Entry = record { author = author; event = event } in
       let same : tablets (h ++ e ∷ []) ≡ tablets h = tablets_push h e ∙ ap (λ (p : Places). p.tablets) (s.places_stay (places h)) in
       record {
+        least = k.least;
         legal = legal_push n h e k.legal m.fits;
         next_is = m.next_is;
         active_are = m.active_are;
@@ -134,3 +136,40 @@ module _ (n : ℕ) (o : oracle.OracleState ConflictKey) (d : List PredDef) (ps :
         commits_are = rw commits_push (ap (λ (cs : List (oracle.Commit ConflictKey)). cs ++ (record { ts = o.next; keys = offer.keys }) ∷ []) k.commits_are);
         line_is = k.line_is;
       })
+
+  -- ---- an alter
+
+  no_starts : (starts : List Started) → starts_of starts ≡ [] → starts ≡ []
+  no_starts [] e = refl
+  no_starts (s ∷ starts) e = absurd (cc)
+
+  pub none_active : o.active ≡ [] → active h ≡ []
+  none_active e = no_starts (active h) (sym k.active_are ∙ e)
+
+  pub none_held : (newer : List PredDef) → AllByRecursion (λ def. is_held (tablets h) def.name ≡ false) newer
+  none_held [] = tt
+  none_held (def ∷ newer) = (not_held (tablets h) def.name k.idle, none_held newer)
+
+  all_idle : (fresh : List Tablet) (ps : List Place) → AllByRecursion (λ (t : Place). t.phase ≡ Idle) ps → AllByRecursion (λ (t : Place). t.phase ≡ Idle) (ps ++ map fresh_place fresh)
+  all_idle [] [] a = tt
+  all_idle (t ∷ fresh) [] a = (refl, all_idle fresh [] tt)
+  all_idle fresh (p ∷ ps) a = (a.0, all_idle fresh ps a.1)
+
+  pub alter_keeps : (newer : List PredDef) (parts : List Part) → author ≡ 0 → o.active ≡ [] → o.next + 1 < 2 ^ 62 → AreDistinct newer → KeepKinds h newer → AreAlterParts h newer parts → IsKept n (oracle.two_drawn o) (with_definitions d newer) (ps ++ map fresh_place (fresh n ps newer)) (owners_of (ps ++ map fresh_place (fresh n ps newer))) (and_entry h author (Alter o.next newer (record { ts = o.next + 1; fresh = fresh n ps newer; parts = parts })))
+  alter_keeps newer parts own idle lt distinct kinds are =
+      let event : Event = Alter o.next newer (record { ts = o.next + 1; fresh = fresh n ps newer; parts = parts }) in
+      let e : Entry = record { author = author; event = event } in
+      let fresh_is : fresh n ps newer ≡ fresh n (tablets h) newer = ap (λ (q : List Place). fresh n q newer) k.tablets_are in
+      let after : ps ++ map fresh_place (fresh n ps newer) ≡ tablets (h ++ e ∷ []) = ap (λ (q : List Place). q ++ map fresh_place (fresh n ps newer)) k.tablets_are ∙ sym (tablets_push h e) in
+      record {
+        least = k.least;
+        legal = legal_push n h e k.legal (own, record { start_is = k.next_is; ts = refl; drawn = lt; none_active = none_active idle; distinct = distinct; none_held = none_held newer; kinds = kinds; fresh_are = fresh_is; parts_are = are });
+        next_is = let p = next_push h e in omega (arith, k.next_is);
+        active_are = rw active_push k.active_are;
+        commits_are = rw commits_push (k.commits_are ∙ sym (append-nil (commits h)));
+        line_is = k.line_is;
+        schema_is = ap (λ (s : List PredDef). with_definitions s newer) k.schema_is ∙ sym (schema_push h e);
+        tablets_are = after;
+        owners_are = ap owners_of after;
+        idle = subst (λ (q : List Place). AllByRecursion (λ (t : Place). t.phase ≡ Idle) q) after (all_idle (fresh n ps newer) ps (subst (λ (q : List Place). AllByRecursion (λ (t : Place). t.phase ≡ Idle) q) (sym k.tablets_are) k.idle));
+      }

@@ -10,3 +10,5 @@ pub mod Kept
 pub mod Refusals
 pub mod Committing
 pub mod NewTablets
+pub mod AlterKeeps
+pub mod Streams

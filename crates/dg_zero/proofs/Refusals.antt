@@ -44,7 +44,7 @@ pub named : {K : Type 0} (cmp : K → K → Ordering) (cs : List (oracle.Commit 
 named cmp cs start keys at ts e = let same : at - 0 ≡ at = omega arith in subst (λ (k : ℕ). Named cmp cs start keys k ts) same (named_from cmp cs start 0 keys at ts e).0
 
 -- where no tablet is held
-not_held : (ts : List Place) (pred : List ℕ) → AllByRecursion (λ (t : Place). t.phase ≡ Idle) ts → is_held ts pred ≡ false
+pub not_held : (ts : List Place) (pred : List ℕ) → AllByRecursion (λ (t : Place). t.phase ≡ Idle) ts → is_held ts pred ≡ false
 not_held [] pred a = refl
 not_held (t ∷ ts) pred a =
     elim (is_place_of pred t) as (λ b. is_held_phase (phase_by (cond b (Some t) (find (is_place_of pred) ts))) ≡ false) [ true ↦ ap is_held_phase a.0 | false ↦ not_held ts pred a.1 ]

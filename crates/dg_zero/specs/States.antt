@@ -50,6 +50,7 @@ owners history = owners_of (tablets history)
 
 -- what a state keeps: its history is legal, and the oracle, the schema, the tablets and the owners are where it leads; nothing is moved, and the line isn't advanced yet
 pub record IsKept (groups : ℕ) (oracle : OracleState ConflictKey) (declared : List PredDef) (places : List Place) (owned : List Tablet) (history : List Entry) : Type 0 where
+  pub least : 1 ≤ groups
   pub legal : IsLegal groups history
   pub next_is : oracle.next ≡ next history
   pub active_are : oracle.active ≡ starts_of (active history)

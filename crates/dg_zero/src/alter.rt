@@ -1,10 +1,11 @@
 // The call that adds or replaces definitions.
-ghost use Rattle.std.specs.Prelude.{◌≡◌, ◌+◌, ◌^◌, ◌<◌, [], None, IfOk, IfErr, OnOk, OnErr};
+ghost use Rattle.std.specs.Prelude.{◌≡◌, ◌+◌, ◌^◌, ◌<◌, ◌≤◌, [], None, IfOk, IfErr, OnOk, OnErr};
 ghost use Rattle.dg_zero.specs.Counters.{next, active};
 ghost use Rattle.dg_zero.specs.Legal.{IsLegal};
 ghost use Rattle.dg_zero.specs.Places.{tablets};
 ghost use Rattle.dg_zero.specs.Altering.{IsAltered};
 ghost use Rattle.dg_zero.specs.States.{and_then, alter_of, first_held, AreAlterParts, IsAlterFault, KeepKinds};
+ghost use Rattle.dg_zero.specs.Worlds.{schema};
 
 use crate::fresh::{fresh_places, tablets_of, with_places};
 use crate::past::append;
@@ -13,6 +14,7 @@ use crate::{Event, Owners, Slip, ZeroFault, ZeroState};
 use dg_keys::{Part, Record, Tablet};
 use dg_schema::Schema;
 use dg_values::{List, Mem, OutOfMemory};
+use std::alloc::Global;
 use std::sync::Arc;
 
 // All that an alter needs memory for.
@@ -74,38 +76,47 @@ impl ZeroState {
 
     // All that an alter needs, unless a transaction is active.
     fn prepare(&self, newer: &Schema) -> Result<Altered, ZeroFault>
-        ensures ok { IfOk result (IsAltered self.now.groups self.now.history newer.now) }
+        ensures ok { IfOk result (IsAltered self.now.groups (schema self.now.history) (tablets self.now.history) newer.now) }
         ensures none_active { OnOk result (active self.now.history ≡ []) }
         ensures fault { IfErr result (IsAlterFault self.now.history newer.now) }
     {
-        match self.oracle.first_active() {
-            Some(start) => Err(ZeroFault::Pending { start }),
-            None => Ok(self.altered(newer)?),
+        if let Some(start) = self.oracle.first_active() {
+            return Err(ZeroFault::Pending { start });
         }
-    }
-
-    // What an alter makes, before anything changes.
-    fn altered(&self, newer: &Schema) -> Mem<Altered>
-        ensures { IfOk result (IsAltered self.now.groups self.now.history newer.now) }
-    {
-        let fresh = fresh_places(
+        let tablets = self.tablets.as_slice();
+        Ok(make_altered(
             self.alloc,
             self.groups,
-            self.tablets.as_slice(),
-            newer.definitions(),
-        )?;
-        let schema = self.schema.with(newer)?;
-        let newer = newer.copy()?;
-        let owners = Owners::of(self.alloc, self.tablets.as_slice(), fresh.as_slice())?;
-        let tablets = with_places(self.alloc, self.tablets.as_slice(), fresh.as_slice())?;
-        Ok(Altered {
-            newer,
-            schema: Arc::new(self.alloc, schema)?,
-            fresh: tablets_of(self.alloc, fresh.as_slice())?,
+            &self.schema,
             tablets,
-            owners: Arc::new(self.alloc, owners)?,
-        })
+            newer,
+        )?)
     }
+}
+
+// What an alter makes, before anything changes.
+fn make_altered(
+    alloc: Global,
+    groups: u32,
+    declared: &Schema,
+    places: &[Place],
+    newer: &Schema,
+) -> Mem<Altered>
+    requires { 1 ≤ groups }
+    ensures { IfOk result (IsAltered groups declared.now places.now newer.now) }
+{
+    let fresh = fresh_places(alloc, groups, places, newer.definitions())?;
+    let schema = declared.with(newer)?;
+    let newer = newer.copy()?;
+    let owners = Owners::of(alloc, places, fresh.as_slice())?;
+    let tablets = with_places(alloc, places, fresh.as_slice())?;
+    Ok(Altered {
+        newer,
+        schema: Arc::new(alloc, schema)?,
+        fresh: tablets_of(alloc, fresh.as_slice())?,
+        tablets,
+        owners: Arc::new(alloc, owners)?,
+    })
 }
 
 // The entry of an alter. It takes no memory.

@@ -1,5 +1,5 @@
 // The tablets of new predicates.
-ghost use Rattle.std.specs.Prelude.{◌≡◌, ◌++◌, ◌∷◌, [], ◌≤◌, IfOk, OnOk, map};
+ghost use Rattle.std.specs.Prelude.{◌≡◌, ◌++◌, ◌∷◌, [], ◌≤◌, IfOk, OnOk, map, nat_lt, if◌then◌else◌};
 ghost use Rattle.std.specs.List.{list_any};
 ghost use Rattle.dg_zero.specs.Places.{is_place_of, owned, fewest, groups, fresh, fresh_place};
 ghost use Rattle.dg_zero.specs.States.{tablet_of};
@@ -38,16 +38,25 @@ fn owned_in(places: &[Place], more: &[Place], group: u32) -> usize
     owned(places, group) + owned(more, group)
 }
 
+// Of two groups the one with fewer tablets, or else the second.
+fn lesser(places: &[Place], more: &[Place], group: u32, best: u32) -> u32
+    ensures { result ≡ (if nat_lt (owned (places.now ++ more.now) group) (owned (places.now ++ more.now) best) then group else best) }
+{
+    if owned_in(places, more, group) < owned_in(places, more, best) {
+        group
+    } else {
+        best
+    }
+}
+
 // The group from 1 to `count` that owns the fewest tablets, of those the lowest.
 fn fewest(places: &[Place], more: &[Place], count: u32) -> u32
     requires { 1 ≤ count }
     ensures { result ≡ fewest (places.now ++ more.now) (groups count) }
 {
     let mut best = 1;
-    for group in 1..=count {
-        if owned_in(places, more, group) < owned_in(places, more, best) {
-            best = group;
-        }
+    for index in 0..count {
+        best = lesser(places, more, index + 1, best);
     }
     best
 }

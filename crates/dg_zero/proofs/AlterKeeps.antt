@@ -1,0 +1,75 @@
+-- What an alter keeps, and why it is refused.
+use Rattle.std.proofs.Common.{◌≡◌, ℕ, suc, ◌+◌, ◌<◌, ◌≤◌, ◌^◌, Bool, true, false, List, [], ◌∷◌, ◌++◌, Option, Some, None, refl, ap, subst, sym, ◌∙◌, arith}
+use Rattle.std.specs.Prelude.{filter, option_map, ◌==◌, ◌||◌, map}
+use Rattle.std.specs.Arc.{arc_value}
+use Rattle.std.specs.List.{AllByRecursion}
+use Rattle.std.proofs.lemmas.Grind.{common_steps}
+use Rattle.dg_schema.specs.declared.definition.PredDef.{PredDef}
+use Rattle.dg_schema.specs.Definitions.{with_definitions}
+use Rattle.dg_keys.specs.declared.conflict.ConflictKey.{ConflictKey}
+use Rattle.dg_keys.specs.declared.record.Part.{Part}
+use Rattle.dg_keys.specs.declared.record.Tablet.{Tablet}
+use Rattle.dg_oracle.specs.Commits as oracle
+use Rattle.dg_zero.specs.declared.alter.Altered.{Altered}
+use Rattle.dg_zero.specs.declared.entry.Entry.{Entry}
+use Rattle.dg_zero.specs.declared.entry.Event.{Event}
+use Rattle.dg_zero.specs.declared.entry.Event.TheVariants.{Alter}
+use Rattle.dg_zero.specs.declared.place.Place.{Place}
+use Rattle.dg_zero.specs.Altering.{IsAltered}
+use Rattle.dg_zero.specs.Counters.{active, starts_of}
+use Rattle.dg_zero.specs.Places.{tablets, is_held, fresh, fresh_place}
+use Rattle.dg_zero.specs.States.{Zero, IsKept, and_entry, owners_of, first_held, IsLeastStart, KeepKinds, AreAlterParts}
+use Rattle.dg_zero.specs.Verdicts.{first}
+use Rattle.dg_zero.specs.Worlds.{schema}
+use Rattle.dg_zero.proofs.Kept.{alter_keeps, none_held}
+
+-- the first start is the least
+all_above : (low : ℕ) (xs : List ℕ) → oracle.Ascends low xs → AllByRecursion (λ x. low ≤ x) xs
+all_above low [] a = tt
+all_above low (x ∷ xs) a = (omega (arith, a.0), all_above low xs (lower low x xs (omega (arith, a.0)) a.1))
+  where
+    lower : (l m : ℕ) (ys : List ℕ) → l ≤ m → oracle.Ascends m ys → oracle.Ascends l ys
+    lower l m [] le a = tt
+    lower l m (y ∷ ys) le a = (omega (arith, le, a.0), a.1)
+
+pub least_first : (h : List Entry) (line start : ℕ) (xs : List ℕ) → xs ≡ starts_of (active h) → oracle.Ascends line xs → Some start ≡ oracle.first_start xs → IsLeastStart h start
+least_first h line start [] same a e = absurd (cc)
+least_first h line start (x ∷ xs) same a e =
+    let is : start ≡ x = cc in
+    let it : (x == start) ≡ true = grind (arith, common_steps) in
+    record {
+      found = subst (λ (ys : List ℕ). oracle.is_active ys start ≡ true) same (rw it refl);
+      least = subst (λ (ys : List ℕ). AllByRecursion (λ s. start ≤ s) ys) same (omega (arith, is), subst (λ (k : ℕ). AllByRecursion (λ s. k ≤ s) xs) (sym is) (all_above x xs a.1));
+    }
+
+pub no_first : (xs : List ℕ) → None ≡ oracle.first_start xs → xs ≡ []
+no_first [] e = refl
+no_first (x ∷ xs) e = absurd (cc)
+
+-- no tablet is held
+pub none_first_held : (places : List Place) (newer : List PredDef) → AllByRecursion (λ def. is_held places def.name ≡ false) newer → first_held places newer ≡ None
+none_first_held places newer a = ap (λ (ds : List PredDef). option_map (λ (d : PredDef). d.name) (first ds)) (none newer a)
+  where
+    none : (ds : List PredDef) → AllByRecursion (λ def. is_held places def.name ≡ false) ds → filter (λ (d : PredDef). is_held places d.name) ds ≡ []
+    none [] a = refl
+    none (d ∷ ds) a = rw a.0 (none ds a.1)
+
+module _ (n : ℕ) (o : oracle.OracleState ConflictKey) (d : List PredDef) (ps : List Place) (w : List Tablet) (h : List Entry) (now : Zero) (groups : n ≡ now.groups) (view : h ≡ now.history) (author : ℕ) (k : IsKept n o d ps w h) where
+  pub held_nowhere : (newer : List PredDef) → first_held (tablets now.history) newer ≡ None
+  held_nowhere newer = subst (λ (x : List Entry). first_held (tablets x) newer ≡ None) view (none_first_held (tablets h) newer (none_held n o d ps w h author k newer))
+
+  -- what was made before anything changed is where the history leads then
+  pub altered_keeps : (newer : List PredDef) (parts : List Part) (a : Altered) (start ts : ℕ) (o2 : oracle.OracleState ConflictKey) (past : List Entry) → IsAltered now.groups (schema now.history) (tablets now.history) newer a → author ≡ 0 → active now.history ≡ [] → o.next + 1 < 2 ^ 62 → KeepKinds now.history newer → AreAlterParts now.history newer parts → start ≡ o.next → ts ≡ o.next + 1 → o2 ≡ oracle.two_drawn o → past ≡ and_entry h author (Alter start a.newer (record { ts = ts; fresh = a.fresh; parts = parts })) → IsKept n o2 (arc_value a.schema) a.tablets.items (arc_value a.owners) past
+  altered_keeps newer parts a start ts o2 past is own idle lt kinds are start_is ts_is drawn past_is =
+      let back : now.groups ≡ n = sym groups in
+      let declared : schema now.history ≡ d = sym (k.schema_is ∙ ap schema view) in
+      let places : tablets now.history ≡ ps = sym (k.tablets_are ∙ ap tablets view) in
+      let schema_is : arc_value a.schema ≡ with_definitions d newer = is.schema_is ∙ ap (λ (s : List PredDef). with_definitions s newer) declared in
+      let fresh_is : a.fresh ≡ fresh n ps newer = is.fresh_are ∙ (λ i. fresh (back i) (places i) newer) in
+      let tablets_is : a.tablets.items ≡ ps ++ map fresh_place (fresh n ps newer) = is.tablets_are ∙ (λ i. places i ++ map fresh_place (fresh (back i) (places i) newer)) in
+      let owners_is : arc_value a.owners ≡ owners_of (ps ++ map fresh_place (fresh n ps newer)) = is.owners_are ∙ (λ i. owners_of (places i ++ map fresh_place (fresh (back i) (places i) newer))) in
+      let event_is : Alter start a.newer (record { ts = ts; fresh = a.fresh; parts = parts }) ≡ Alter o.next newer (record { ts = o.next + 1; fresh = fresh n ps newer; parts = parts }) = λ i. Alter (start_is i) (is.newer_are i) (record { ts = ts_is i; fresh = fresh_is i; parts = parts }) in
+      let none : o.active ≡ [] = k.active_are ∙ (ap (λ (x : List Entry). starts_of (active x)) view ∙ ap starts_of idle) in
+      let base = alter_keeps n o d ps w h author k newer parts own none lt is.distinct (subst (λ (x : List Entry). KeepKinds x newer) (sym view) kinds) (subst (λ (x : List Entry). AreAlterParts x newer parts) (sym view) are) in
+      let past_at : past ≡ and_entry h author (Alter o.next newer (record { ts = o.next + 1; fresh = fresh n ps newer; parts = parts })) = past_is ∙ ap (λ (e : Event). and_entry h author e) event_is in
+      rw (drawn, schema_is, tablets_is, owners_is, past_at) base
