@@ -3,6 +3,7 @@ ghost use Rattle.dg_values.specs.Order.{posting_cmp};
 ghost use Rattle.dg_graph.specs.Graphs.{triple_cmp};
 
 use crate::runs::put_alone;
+use crate::subject::copied_objects;
 use crate::{
     Change, Graph, Triple, change_objects, graphs, is_of_subject, is_single, lists_of_graphs,
 };
@@ -64,23 +65,8 @@ fn a_triple_takes_the_place_of_its_subjects_others(rt: HostRuntime) -> Result<()
     put_edge(alloc, &mut triples, 2, 5)?;
     put_edge(alloc, &mut triples, 1, 7)?;
     put_edge(alloc, &mut triples, 2, 4)?;
-    assert!(rt;
-        matches!(
-            triples.as_slice(),
-            [
-                Triple {
-                    s: 1,
-                    o: Posting::Uid(7),
-                    ..
-                },
-                Triple {
-                    s: 2,
-                    o: Posting::Uid(4),
-                    ..
-                }
-            ]
-        )
-    );
+    let objects = copied_objects(alloc, triples.as_slice())?;
+    assert!(rt; matches!(objects.as_slice(), [Posting::Uid(7), Posting::Uid(4)]));
     Ok(())
 }
 
