@@ -21,12 +21,10 @@ use Rattle.dg_graph.specs.declared.change.Change.TheVariants.{Set, Del}
 
 -- ---- the order of triples
 
+-- a subject and an object
 record Place : Type 0 where
   s : ℕ
   o : Posting
-
-place : Triple → Place
-place t = record { s = t.s; o = t.o }
 
 pub triple_order : IsOrder triple_cmp
 triple_order =

@@ -17,7 +17,7 @@ subject_cmp p s triple = ordering_then (text_cmp triple.p p) (nat_cmp triple.s s
 abbrev pub without_subject : List ℕ → ℕ → List Triple → List Triple
 without_subject p s triples = filter (λ t. not (is_of_subject p s t)) triples
 
--- the triples of a subject stand together, from the first on and before the one behind them; a triple of that subject that takes their place is put in there
+-- the triples of a subject stand together, from `first` to before `behind`, and one that takes their place is put in there
 pub record IsRun (p : List ℕ) (s : ℕ) (triples : List Triple) (first behind : ℕ) : Type 0 where
   pub order : first ≤ behind
   pub within : behind ≤ length triples

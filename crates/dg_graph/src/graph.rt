@@ -68,7 +68,8 @@ impl Graph {
     }
 
     /// Makes a change: a set first takes out what the subject has, where the predicate is declared as no list, and
-    /// then puts its triple in; a delete takes its triple out. After an error the graph is as before.
+    /// then puts its triple in; a delete takes its triple out. It looks by halves, and takes memory only for a triple
+    /// that is put in. After an error the graph is as before.
     pub fn apply(&mut self, schema: &Schema, change: &Change) -> Mem<()>
         ensures ok { OnOk result (self.new ≡ after_change schema.now self.old change.now) }
         ensures err { OnErr result (self.new ≡ self.old) }

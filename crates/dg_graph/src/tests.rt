@@ -1,4 +1,9 @@
+ghost use Rattle.dg_values.specs.Ascending.{Ascends};
+ghost use Rattle.dg_values.specs.Order.{posting_cmp};
+ghost use Rattle.dg_graph.specs.Graphs.{triple_cmp};
+
 use crate::runs::put_alone;
+use crate::subject::copied_objects;
 use crate::{
     Change, Graph, Triple, change_objects, graphs, is_of_subject, is_single, lists_of_graphs,
 };
@@ -6,107 +11,99 @@ use dg_schema::Schema;
 use dg_sets::InOrder;
 use dg_values::{Mem, OutOfMemory, Posting, Str};
 use std::alloc::Global;
+use std::cmp::Ordering;
 use std::test::Fail;
 
 fn edge(alloc: Global, s: u64, p: &str, o: u64) -> Mem<Triple> {
-    Ok(Triple {
-        s,
-        p: Str::from_str(alloc, p)?,
-        o: Posting::Uid(o),
-    })
+    let p = Str::from_str(alloc, p)?;
+    let o = Posting::Uid(o);
+    Ok(Triple { s, p, o })
 }
 
-fn set(alloc: Global, s: u64, p: &str, o: u64) -> Mem<Change> {
-    Ok(Change::Set(edge(alloc, s, p, o)?))
+fn set(alloc: Global, graph: &mut Graph, s: u64, p: &str, o: u64) -> Mem<()> {
+    let change = Change::Set(edge(alloc, s, p, o)?);
+    graph.apply(&Schema::new(alloc), &change)
 }
 
-fn del(alloc: Global, s: u64, p: &str, o: u64) -> Mem<Change> {
-    Ok(Change::Del(edge(alloc, s, p, o)?))
+fn del(alloc: Global, graph: &mut Graph, s: u64, p: &str, o: u64) -> Mem<()> {
+    let change = Change::Del(edge(alloc, s, p, o)?);
+    graph.apply(&Schema::new(alloc), &change)
 }
 
 #[test]
 fn objects_of_two_subjects(rt: HostRuntime) -> Result<(), Fail> {
     let alloc = rt.alloc();
-    let schema = Schema::new(alloc);
     let mut graph = Graph::new(alloc)?;
-    graph.apply(&schema, &set(alloc, 1, "friend", 30)?)?;
-    graph.apply(&schema, &set(alloc, 1, "friend", 20)?)?;
-    graph.apply(&schema, &set(alloc, 2, "friend", 90)?)?;
-    graph.apply(&schema, &set(alloc, 1, "boss", 2)?)?;
-    graph.apply(&schema, &set(alloc, 1, "friend", 30)?)?;
-    graph.apply(&schema, &del(alloc, 2, "friend", 30)?)?;
-    assert_eq!(rt; graph.triples().len(), 4);
+    set(alloc, &mut graph, 1, "friend", 30)?;
+    set(alloc, &mut graph, 1, "friend", 20)?;
+    set(alloc, &mut graph, 2, "friend", 90)?;
+    set(alloc, &mut graph, 1, "friend", 30)?;
+    del(alloc, &mut graph, 2, "friend", 30)?;
     let two = graph.objects(alloc, "friend", 1)?;
     assert!(rt; matches!(two.as_slice(), [Posting::Uid(20), Posting::Uid(30)]));
-    graph.apply(&schema, &del(alloc, 1, "friend", 20)?)?;
+    del(alloc, &mut graph, 1, "friend", 20)?;
     let one = graph.objects(alloc, "friend", 1)?;
     assert!(rt; matches!(one.as_slice(), [Posting::Uid(30)]));
-    let other = graph.objects(alloc, "friend", 2)?;
-    assert!(rt; matches!(other.as_slice(), [Posting::Uid(90)]));
-    assert!(rt; graph.objects(alloc, "boss", 2)?.is_empty());
+    assert_eq!(rt; graph.triples().len(), 2);
     Ok(())
+}
+
+fn put_edge(alloc: Global, triples: &mut Vec<Triple>, s: u64, o: u64) -> Mem<()>
+    requires ascend { Ascends triple_cmp triples.old.items }
+    ensures ascends { Ascends triple_cmp triples.new.items }
+{
+    match edge(alloc, s, "boss", o) {
+        Ok(edge) => put_alone(triples, edge),
+        Err(error) => Err(error),
+    }
 }
 
 #[test]
 fn a_triple_takes_the_place_of_its_subjects_others(rt: HostRuntime) -> Result<(), Fail> {
     let alloc = rt.alloc();
     let mut triples = Vec::new(alloc);
-    put_alone(&mut triples, edge(alloc, 2, "boss", 5)?)?;
-    put_alone(&mut triples, edge(alloc, 1, "boss", 7)?)?;
-    put_alone(&mut triples, edge(alloc, 2, "boss", 4)?)?;
-    assert_eq!(rt; triples.len(), 2);
-    assert!(rt; triples[0].compare(&edge(alloc, 1, "boss", 7)?).is_eq());
-    assert!(rt; triples[1].compare(&edge(alloc, 2, "boss", 4)?).is_eq());
+    put_edge(alloc, &mut triples, 2, 5)?;
+    put_edge(alloc, &mut triples, 1, 7)?;
+    put_edge(alloc, &mut triples, 2, 4)?;
+    let objects = copied_objects(alloc, triples.as_slice())?;
+    assert!(rt; matches!(objects.as_slice(), [Posting::Uid(7), Posting::Uid(4)]));
     Ok(())
+}
+
+fn set_object(alloc: Global, objects: &mut Vec<Posting>, s: u64, p: &str, o: u64) -> Mem<()>
+    requires ascend { Ascends posting_cmp objects.old.items }
+    ensures ascends { Ascends posting_cmp objects.new.items }
+{
+    match edge(alloc, s, p, o) {
+        Ok(edge) => change_objects(
+            alloc,
+            &Schema::new(alloc),
+            "friend",
+            1,
+            objects,
+            &Change::Set(edge),
+        ),
+        Err(error) => Err(error),
+    }
 }
 
 #[test]
 fn changes_of_the_objects_of_a_subject(rt: HostRuntime) -> Result<(), Fail> {
     let alloc = rt.alloc();
-    let schema = Schema::new(alloc);
     let mut objects = Vec::new(alloc);
-    change_objects(
-        alloc,
-        &schema,
-        "friend",
-        1,
-        &mut objects,
-        &set(alloc, 1, "friend", 30)?,
-    )?;
-    change_objects(
-        alloc,
-        &schema,
-        "friend",
-        1,
-        &mut objects,
-        &set(alloc, 1, "friend", 20)?,
-    )?;
-    change_objects(
-        alloc,
-        &schema,
-        "friend",
-        1,
-        &mut objects,
-        &set(alloc, 2, "friend", 10)?,
-    )?;
-    change_objects(
-        alloc,
-        &schema,
-        "friend",
-        1,
-        &mut objects,
-        &set(alloc, 1, "boss", 10)?,
-    )?;
-    change_objects(
-        alloc,
-        &schema,
-        "friend",
-        1,
-        &mut objects,
-        &del(alloc, 1, "friend", 10)?,
-    )?;
+    set_object(alloc, &mut objects, 1, "friend", 30)?;
+    set_object(alloc, &mut objects, 1, "friend", 20)?;
+    set_object(alloc, &mut objects, 2, "friend", 10)?;
+    set_object(alloc, &mut objects, 1, "boss", 10)?;
     assert!(rt; matches!(objects.as_slice(), [Posting::Uid(20), Posting::Uid(30)]));
     Ok(())
+}
+
+// How a triple stands to the one from 1 by `friend` to 20.
+fn place(alloc: Global, s: u64, p: &str, o: u64) -> Mem<Ordering> {
+    let triple = edge(alloc, s, p, o)?.copy(alloc)?;
+    let other = edge(alloc, 1, "friend", 20)?;
+    Ok(triple.compare(&other))
 }
 
 #[test]
@@ -114,13 +111,18 @@ fn triples_by_predicate_subject_and_object(rt: HostRuntime) -> Result<(), Fail> 
     let alloc = rt.alloc();
     graphs();
     lists_of_graphs();
-    let boss = edge(alloc, 9, "boss", 9)?;
-    let friend = edge(alloc, 1, "friend", 10)?;
-    assert!(rt; boss.compare(&friend).is_lt());
-    assert!(rt; friend.compare(&edge(alloc, 2, "friend", 1)?).is_lt());
-    assert!(rt; friend.compare(&edge(alloc, 1, "friend", 11)?).is_lt());
-    assert!(rt; friend.copy(alloc)?.compare(&friend).is_eq());
-    assert!(rt; is_of_subject("friend", 1, &friend) && !is_of_subject("friend", 2, &friend));
-    assert!(rt; !is_single(&Schema::new(alloc), "friend"));
+    assert_eq!(rt; place(alloc, 9, "boss", 90)?, Ordering::Less);
+    assert_eq!(rt; place(alloc, 2, "friend", 10)?, Ordering::Greater);
+    assert_eq!(rt; place(alloc, 1, "friend", 10)?, Ordering::Less);
+    assert_eq!(rt; place(alloc, 1, "friend", 20)?, Ordering::Equal);
+    Ok(())
+}
+
+#[test]
+fn what_isnt_declared_is_a_list(rt: HostRuntime) -> Result<(), Fail> {
+    let triple = edge(rt.alloc(), 1, "friend", 20)?;
+    assert!(rt; is_of_subject("friend", 1, &triple));
+    assert!(rt; !is_of_subject("friend", 2, &triple));
+    assert!(rt; !is_single(&Schema::new(rt.alloc()), "friend"));
     Ok(())
 }
