@@ -4,3 +4,6 @@
 mod op;
 
 pub use op::Op;
+
+#[cfg(test)]
+mod tests;

@@ -70,7 +70,7 @@ impl Schema {
         }
     }
 
-    /// This one definition.
+    /// This one definition, which is let go where there is no memory for it.
     pub fn single(alloc: Global, definition: PredDef) -> Mem<Schema>
         ensures { IfOk result (λ schema. schema ≡ definition ∷ []) }
     {
