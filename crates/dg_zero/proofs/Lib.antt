@@ -12,3 +12,4 @@ pub mod Committing
 pub mod NewTablets
 pub mod AlterKeeps
 pub mod Streams
+pub mod EmptyOffers

@@ -1,0 +1,86 @@
+-- Offers that change nothing are sound, and so is an alter over the empty history.
+use Rattle.std.proofs.Common.{◌≡◌, ◌≢◌, ℕ, Bool, true, false, ◌++◌, List, [], ◌∷◌, Option, Some, None, refl, sym, ap, ◌∙◌, arith}
+use Rattle.std.specs.Prelude.{filter, not, ◌==◌, ◌&&◌, ◌||◌}
+use Rattle.std.specs.List.{AllByRecursion}
+use Rattle.std.proofs.lemmas.Grind.{common_steps}
+use Rattle.dg_values.specs.Ascending.{Ascends, has}
+use Rattle.dg_values.specs.Order.{posting_cmp}
+use Rattle.dg_values.specs.declared.value.Posting.{Posting}
+use Rattle.dg_values.proofs.OrderLaws.{posting_order}
+use Rattle.dg_sets.proofs.Sets.{from_each}
+use Rattle.dg_delta.specs.Ops.{missing, changes_between}
+use Rattle.dg_schema.specs.declared.definition.PredDef.{PredDef}
+use Rattle.dg_schema.specs.Definitions.{definition_of, with_definitions}
+use Rattle.dg_keys.specs.declared.conflict.ConflictKey.{ConflictKey}
+use Rattle.dg_keys.specs.declared.key.Key.{Key}
+use Rattle.dg_keys.specs.declared.key.Key.TheVariants.{Data, Index, Reverse, Count, RCount}
+use Rattle.dg_keys.specs.Keys.{pred_of}
+use Rattle.dg_keys.specs.Conflicts.{conflict_cmp}
+use Rattle.dg_zero.specs.declared.entry.Entry.{Entry}
+use Rattle.dg_zero.specs.Legal.{IsLegal}
+use Rattle.dg_zero.specs.Listings.{listing, listing_by}
+use Rattle.dg_zero.specs.Offers.{IsSound}
+use Rattle.dg_zero.specs.declared.entry.Event.{Event}
+use Rattle.dg_zero.specs.declared.entry.Event.TheVariants.{Begin}
+use Rattle.dg_zero.specs.Counters.{Started, active, is_active_of}
+use Rattle.dg_zero.specs.States.{KeepKinds, AreAlterParts, and_entry}
+use Rattle.dg_zero.proofs.Histories.{active_push}
+use Rattle.dg_zero.proofs.LawsOfHistories.{starts_stay}
+use Rattle.dg_zero.specs.Worlds.{schema_at, graph_at}
+use Rattle.dg_zero.proofs.LawfulGraphs.{graphs_are_lawful}
+
+none_missing : (have want : List Posting) → AllByRecursion (λ y. has posting_cmp have y ≡ true) want → missing have want ≡ []
+none_missing have [] a = refl
+none_missing have (y ∷ want) a = rw a.0 (none_missing have want a.1)
+
+-- from a list to itself nothing is done
+pub no_changes : (xs : List Posting) → changes_between xs xs ≡ []
+no_changes xs =
+    let none : missing xs xs ≡ [] = none_missing xs xs (from_each posting_cmp posting_order (λ y. has posting_cmp xs y ≡ true) xs (λ u h. h)) in
+    rw none refl
+
+pub empty_offer : (n : ℕ) (h : List Entry) (start : ℕ) (preds : List (List ℕ)) (keys : List ConflictKey) → IsLegal n h → preds ≢ [] → Ascends conflict_cmp keys → IsSound (schema_at h start) (graph_at h start []) preds keys []
+empty_offer n h start preds keys legal some ascend = record {
+  some = some;
+  lawful = graphs_are_lawful n h start legal;
+  parts_are = record { parts_are = record { ascend = tt; each = tt }; exact = λ key. sym (no_changes (listing (schema_at h start) (graph_at h start []) key)) };
+  ascend = ascend;
+  keys_named = tt;
+  preds_named = tt;
+}
+
+-- nothing is listed where there is no triple
+no_triples : (def : Option PredDef) (key : Key) → listing_by def [] key ≡ []
+no_triples None key = refl
+no_triples (Some def) (Data p s) = refl
+no_triples (Some def) (Index p t) = grind (arith, common_steps)
+no_triples (Some def) (Reverse p o) = grind (arith, common_steps)
+no_triples (Some def) (Count p n) = grind (arith, common_steps)
+no_triples (Some def) (RCount p n) = grind (arith, common_steps)
+
+-- the first alter changes no list
+pub first_parts : (newer : List PredDef) → AreAlterParts [] newer []
+first_parts newer = record {
+  parts_are = record { ascend = tt; each = tt };
+  exact = λ key. let after = no_triples (definition_of (with_definitions [] newer) (pred_of key)) key in rw after refl;
+}
+
+pub first_kinds : (newer : List PredDef) → KeepKinds [] newer
+first_kinds [] = tt
+first_kinds (def ∷ newer) = (tt, first_kinds newer)
+
+-- a start that was just drawn is active
+pub begun_active : (h : List Entry) (author start : ℕ) → is_active_of (active (and_entry h author (Begin start))) start author ≡ true
+begun_active h author start = rw active_push (last (active h))
+  where
+    last : (starts : List Started) → is_active_of (starts ++ (record { start = start; author = author }) ∷ []) start author ≡ true
+    last [] = let same : (start == start) ≡ true = grind (arith, common_steps) in let own : (author == author) ≡ true = grind (arith, common_steps) in rw (same, own) refl
+    last (s ∷ starts) = later ((s.start == start) && (s.author == author)) (last starts)
+
+    later : (b : Bool) {c : Bool} → c ≡ true → (b || c) ≡ true
+    later true e = refl
+    later false e = e
+
+-- and stays so through an entry of another
+pub others_active : (n : ℕ) (h : List Entry) (author start other : ℕ) (event : Event) → IsLegal n (and_entry h other event) → other ≢ author → is_active_of (active h) start author ≡ true → is_active_of (active (and_entry h other event)) start author ≡ true
+others_active n h author start other event legal apart a = starts_stay n h ((record { author = other; event = event }) ∷ []) author start legal (apart, tt) a
