@@ -1,10 +1,11 @@
-//! What own places are.
-ghost use Rattle.dg_turn.specs.Laws.{PlacesAreOwn, PlacesAscend};
+// What the places of an author's entries are.
+ghost use Rattle.dg_turn.specs.Laws.{PlacesAreExact, PlacesAscend};
 
 use crate::logged::Logged;
 
-/// Each place of an entry stands once in its author's places, and in no other's. The places ascend.
+/// A law: among the places of a number stands each place of an entry that it made, once, and no other, and they
+/// ascend.
 pub fn own_places<S: Logged>()
-    ensures own { PlacesAreOwn S.author }
+    ensures exact { PlacesAreExact S.author }
     ensures ascend { PlacesAscend S.author }
 {}
