@@ -89,3 +89,7 @@ Gathered m cs n = IsIdle n × (n.0.numbers ≡ numbers_of cs ++ m.0.numbers) × 
 -- the state at the end, for a seat with every number: its history begins with what the seat has seen, its entries are by callers, and with each number stand its places
 abbrev pub Ends : {S E : Type 0} → (S → List E) → (E → ℕ) → ℕ → Seated S E → S → Type 0
 Ends history author callers m y = IsPrefix m.0.seen (history y) × Placed (places_of author (history y)) m.0.numbers × AuthorsBelow author callers (history y) × ((k : ℕ) → count_of k m.0.numbers ≡ in_range 0 callers k)
+
+-- a view that the rule leaves no seat: it is in turn, and has no number
+abbrev pub impossible : {E : Type 0} → View E
+impossible = view_of [] [] [] InTurn 0

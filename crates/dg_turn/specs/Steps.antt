@@ -27,3 +27,7 @@ module _ {S E : Type 0} where
     -- after a join: the longer history is seen, and the shorter begins it
     abbrev pub learned : Step (Option S) → Seated S E → ℕ → Seated S E → Type 0
     learned st m found n = (n ≡ (learning m.0, m.1)) × ((log : List E) × IsPrefix m.0.seen log × IsPrefix m.0.told log × Placed (places_of author log) m.0.numbers)
+
+  -- nothing, since the step can't be made
+  abbrev pub never : Step (Option S) → Seated S E → ℕ → Seated S E → Type 0
+  never st m found n = ⊥

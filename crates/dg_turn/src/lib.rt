@@ -30,7 +30,7 @@ mod view;
 
 pub use caller::{Caller, Note};
 pub use held::Held;
-pub use laws::own_places;
+pub use laws::{never_two_held, own_places};
 pub use lock::Turn;
 pub use logged::Logged;
 

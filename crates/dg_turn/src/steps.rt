@@ -1,7 +1,7 @@
 // The kinds of step of the lock's seats, and what each tells its seat. Taking the state out of the slot and putting it
 // back are plain exchanges, of which no other seat is told.
-ghost use Rattle.dg_turn.specs.Seats.{noted, without_first, first_only, joined, spent};
-ghost use Rattle.dg_turn.specs.Steps.{drew, loaded, added, learned};
+ghost use Rattle.dg_turn.specs.Seats.{noted, without_first, first_only, joined, spent, impossible};
+ghost use Rattle.dg_turn.specs.Steps.{drew, loaded, added, learned, never};
 
 use crate::logged::Logged;
 use crate::view::View;
@@ -60,4 +60,28 @@ impl<E> Join<View<E>> for TellAll {
     ghost both = { joined };
 
     ghost spent = { spent };
+}
+
+// Three kinds that are made in the law on two held states alone, and so never: a split whose new seat has all that the
+// old one had, a join of two seats in turn, and the load after it.
+pub struct HandOver;
+
+impl<E> Split<View<E>> for HandOver {
+    ghost left = { λ v. spent };
+
+    ghost right = { λ v. v };
+}
+
+pub struct BothInTurn;
+
+impl<E> Join<View<E>> for BothInTurn {
+    ghost both = { λ v w. impossible };
+
+    ghost spent = { spent };
+}
+
+pub struct Never;
+
+impl<S, E> Play<Option<S>, View<E>> for Never {
+    ghost then = { never };
 }
