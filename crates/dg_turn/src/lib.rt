@@ -9,10 +9,12 @@
 //! A [`Note`] hands what one caller has seen to another. At the end all callers are given back for the state, whose
 //! history begins with what each has seen, and each of whose entries is one caller's own.
 //!
-//! What callers have seen and their places exist in contracts alone: at run time a caller is its number.
+//! What callers have seen and their places exist in contracts alone: at run time a caller is its number. A [`Held`]
+//! state can't be dropped, so a turn that has begun ends in [`Turn::finish`].
 //!
 //! Contracts say nothing of time: not that a turn comes, nor in what order callers are served that never told each
-//! other anything. [`Turn::take`] alone may wait. [`Turn::new`] alone takes memory.
+//! other anything. [`Turn::take`] alone may wait. [`Turn::new`] alone takes memory. [`Turn::note`] and each caller that
+//! is made load the ticket word once; [`Turn::meet`], and [`Turn::close`] for each caller but one, load it twice.
 #![tactic(auto)]
 
 mod caller;

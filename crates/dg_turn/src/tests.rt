@@ -1,3 +1,5 @@
+// Turns of callers in one thread and in several, over a state that keeps who came. The places of a caller's entries are
+// kept here at run time too, and the clauses of `visit_often` say that they are those that contracts see.
 ghost use Rattle.std.specs.Prelude.{◌≡◌, ◌<◌, ◌++◌, ◌∷◌, [], length};
 ghost use Rattle.dg_turn.specs.Values.{new_callers};
 
