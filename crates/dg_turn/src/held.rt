@@ -5,7 +5,7 @@ use atomic_table::Seat;
 use std::marker::Model;
 
 /// The state, with the caller whose turn it is. Contracts see the caller as it was when the state was taken, with the
-/// whole history of that moment seen, and the state as it is now. It can't be dropped: it ends in `Turn::finish`.
+/// whole history of that moment seen, and the state as it is now. It can't be dropped: `Turn::finish` takes it.
 pub struct Held<S: Logged> {
     pub(crate) number: u32,
     pub(crate) seat: Seat<Option<S>, View<S::Entry>>,

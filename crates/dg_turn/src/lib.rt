@@ -10,7 +10,7 @@
 //! history begins with what each has seen, and each of whose entries is one caller's own.
 //!
 //! What callers have seen and their places exist in contracts alone: at run time a caller is its number. A [`Held`]
-//! state can't be dropped, so a turn that has begun ends in [`Turn::finish`].
+//! state can't be dropped: [`Turn::finish`] takes it. One that is forgotten leaves all others waiting.
 //!
 //! Contracts say nothing of time: not that a turn comes, nor in what order callers are served that never told each
 //! other anything. [`Turn::take`] alone may wait. [`Turn::new`] alone takes memory. [`Turn::note`] and each caller that
