@@ -1,15 +1,13 @@
 ghost use Rattle.dg_values.specs.Ascending.{Ascends};
 ghost use Rattle.dg_values.specs.Order.{posting_cmp};
-ghost use Rattle.dg_graph.specs.Graphs.{triple_cmp};
 
-use crate::runs::put_alone;
 use crate::subject::copied_objects;
 use crate::{
     Change, Graph, Triple, change_objects, graphs, is_of_subject, is_single, lists_of_graphs,
 };
-use dg_schema::Schema;
+use dg_schema::{PredDef, Schema};
 use dg_sets::InOrder;
-use dg_values::{Mem, OutOfMemory, Posting, Str};
+use dg_values::{Kind, List, Mem, OutOfMemory, Posting, Str};
 use std::alloc::Global;
 use std::cmp::Ordering;
 use std::test::Fail;
@@ -48,24 +46,33 @@ fn objects_of_two_subjects(rt: HostRuntime) -> Result<(), Fail> {
     Ok(())
 }
 
-fn put_edge(alloc: Global, triples: &mut Vec<Triple>, s: u64, o: u64) -> Mem<()>
-    requires ascend { Ascends triple_cmp triples.old.items }
-    ensures ascends { Ascends triple_cmp triples.new.items }
-{
-    match edge(alloc, s, "boss", o) {
-        Ok(edge) => put_alone(triples, edge),
-        Err(error) => Err(error),
-    }
+// Each subject has one boss at most.
+fn one_boss(alloc: Global) -> Mem<Schema> {
+    let name = Str::from_str(alloc, "boss")?;
+    Schema::single(
+        alloc,
+        PredDef {
+            name,
+            kind: Kind::Uid,
+            list: false,
+            tokens: List::new(alloc),
+            reverse: false,
+            count: false,
+            upsert: false,
+        },
+    )
 }
 
 #[test]
-fn a_triple_takes_the_place_of_its_subjects_others(rt: HostRuntime) -> Result<(), Fail> {
+fn a_set_takes_the_place_of_the_sole_object(rt: HostRuntime) -> Result<(), Fail> {
     let alloc = rt.alloc();
-    let mut triples = Vec::new(alloc);
-    put_edge(alloc, &mut triples, 2, 5)?;
-    put_edge(alloc, &mut triples, 1, 7)?;
-    put_edge(alloc, &mut triples, 2, 4)?;
-    let objects = copied_objects(alloc, triples.as_slice())?;
+    let schema = one_boss(alloc)?;
+    assert!(rt; is_single(&schema, "boss"));
+    let mut graph = Graph::new(alloc)?;
+    set(alloc, &mut graph, 1, "boss", 7)?;
+    set(alloc, &mut graph, 2, "boss", 5)?;
+    graph.apply(&schema, &Change::Set(edge(alloc, 2, "boss", 4)?))?;
+    let objects = copied_objects(alloc, graph.triples())?;
     assert!(rt; matches!(objects.as_slice(), [Posting::Uid(7), Posting::Uid(4)]));
     Ok(())
 }
