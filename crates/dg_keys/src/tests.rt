@@ -37,12 +37,18 @@ fn text_of(alloc: Global, key: &ConflictKey) -> Mem<Str> {
 }
 
 #[test]
-fn texts_of_keys_with_no_value(rt: HostRuntime) -> Result<(), Fail> {
+fn texts_of_keys_with_nodes(rt: HostRuntime) -> Result<(), Fail> {
     let alloc = rt.alloc();
     let name = data(alloc, "name", 1, None)?;
     let friend = data(alloc, "friend", 1, Some(Posting::Uid(31)))?;
     assert_eq!(rt; text_of(alloc, &name)?.as_str(), "data name 0x1");
     assert_eq!(rt; text_of(alloc, &friend)?.as_str(), "data friend 0x1 0x1f");
+    Ok(())
+}
+
+#[test]
+fn texts_of_keys_of_counts(rt: HostRuntime) -> Result<(), Fail> {
+    let alloc = rt.alloc();
     let out = count(alloc, "friend", 1)?;
     let back = rcount(alloc, "friend", 2)?;
     assert_eq!(rt; text_of(alloc, &out)?.as_str(), "count friend 0x1");
