@@ -1,5 +1,5 @@
 -- Offers that change nothing are sound, and so is an alter over the empty history.
-use Rattle.std.proofs.Common.{◌≡◌, ◌≢◌, ℕ, Bool, true, false, ◌++◌, List, [], ◌∷◌, Option, Some, None, refl, sym, ap, ◌∙◌, arith}
+use Rattle.std.proofs.Common.{◌≡◌, ◌≢◌, ℕ, Bool, true, false, ◌++◌, List, [], ◌∷◌, Option, Some, None, refl, sym, ap, subst, ◌∙◌, arith}
 use Rattle.std.specs.Prelude.{filter, not, ◌==◌, ◌&&◌, ◌||◌}
 use Rattle.std.specs.List.{AllByRecursion}
 use Rattle.std.proofs.lemmas.Grind.{common_steps}
@@ -23,7 +23,7 @@ use Rattle.dg_zero.specs.Offers.{IsSound}
 use Rattle.dg_zero.specs.declared.entry.Event.{Event}
 use Rattle.dg_zero.specs.declared.entry.Event.TheVariants.{Begin}
 use Rattle.dg_zero.specs.Counters.{Started, active, is_active_of}
-use Rattle.dg_zero.specs.States.{KeepKinds, AreAlterParts, and_entry}
+use Rattle.dg_zero.specs.States.{Zero, KeepKinds, AreAlterParts, and_entry, and_then}
 use Rattle.dg_zero.proofs.Histories.{active_push}
 use Rattle.dg_zero.proofs.LawsOfHistories.{starts_stay}
 use Rattle.dg_zero.specs.Worlds.{schema_at, graph_at}
@@ -69,18 +69,24 @@ pub first_kinds : (newer : List PredDef) → KeepKinds [] newer
 first_kinds [] = tt
 first_kinds (def ∷ newer) = (tt, first_kinds newer)
 
+later : (b c : Bool) → c ≡ true → (b || c) ≡ true
+later true c e = refl
+later false c e = e
+
+last_active : (starts : List Started) (start author : ℕ) → is_active_of (starts ++ (record { start = start; author = author }) ∷ []) start author ≡ true
+last_active [] start author =
+    let same : (start == start) ≡ true = grind (arith, common_steps) in
+    let own : (author == author) ≡ true = grind (arith, common_steps) in
+    rw (same, own) refl
+last_active (s ∷ starts) start author = later ((s.start == start) && (s.author == author)) (is_active_of (starts ++ (record { start = start; author = author }) ∷ []) start author) (last_active starts start author)
+
 -- a start that was just drawn is active
 pub begun_active : (h : List Entry) (author start : ℕ) → is_active_of (active (and_entry h author (Begin start))) start author ≡ true
-begun_active h author start = rw active_push (last (active h))
-  where
-    last : (starts : List Started) → is_active_of (starts ++ (record { start = start; author = author }) ∷ []) start author ≡ true
-    last [] = let same : (start == start) ≡ true = grind (arith, common_steps) in let own : (author == author) ≡ true = grind (arith, common_steps) in rw (same, own) refl
-    last (s ∷ starts) = later ((s.start == start) && (s.author == author)) (last starts)
-
-    later : (b : Bool) {c : Bool} → c ≡ true → (b || c) ≡ true
-    later true e = refl
-    later false e = e
+begun_active h author start = rw active_push (last_active (active h) start author)
 
 -- and stays so through an entry of another
-pub others_active : (n : ℕ) (h : List Entry) (author start other : ℕ) (event : Event) → IsLegal n (and_entry h other event) → other ≢ author → is_active_of (active h) start author ≡ true → is_active_of (active (and_entry h other event)) start author ≡ true
-others_active n h author start other event legal apart a = starts_stay n h ((record { author = other; event = event }) ∷ []) author start legal (apart, tt) a
+pub still_active : (before begun after : Zero) (author start other : ℕ) → other ≢ author → begun ≡ and_then before author (Begin start) → (event : Event) × (after ≡ and_then begun other event) → IsLegal after.groups after.history → is_active_of (active after.history) start author ≡ true
+still_active before begun after author start other apart b e legal =
+    let there : is_active_of (active begun.history) start author ≡ true = subst (λ (z : Zero). is_active_of (active z.history) start author ≡ true) (sym b) (begun_active before.history author start) in
+    let longer : IsLegal begun.groups (and_entry begun.history other e.0) = subst (λ (z : Zero). IsLegal z.groups z.history) e.1 legal in
+    subst (λ (z : Zero). is_active_of (active z.history) start author ≡ true) (sym e.1) (starts_stay begun.groups begun.history ((record { author = other; event = e.0 }) ∷ []) author start longer (apart, tt) there)
