@@ -1,6 +1,6 @@
 -- Each call keeps the oracle, the schema, the tablets and the owners where the history leads.
-use Rattle.std.proofs.Common.{◌≡◌, ℕ, ◌+◌, ◌<◌, ◌^◌, Bool, true, false, cond, not, List, [], ◌∷◌, ◌++◌, None, refl, ap, subst, sym, ◌∙◌, arith}
-use Rattle.std.specs.Prelude.{◌==◌, ◌||◌, map}
+use Rattle.std.proofs.Common.{◌≡◌, ℕ, ◌+◌, ◌<◌, ◌^◌, true, false, List, [], ◌∷◌, ◌++◌, None, refl, ap, subst, sym, ◌∙◌, arith}
+use Rattle.std.specs.Prelude.{map}
 use Rattle.std.specs.List.{AllByRecursion}
 use Rattle.std.proofs.lemmas.List.{append-nil, map-append}
 use Rattle.std.proofs.lemmas.List.Sums.{fold-append}
@@ -12,13 +12,13 @@ use Rattle.dg_keys.specs.declared.record.Tablet.{Tablet}
 use Rattle.dg_oracle.specs.Commits as oracle
 use Rattle.dg_zero.specs.declared.entry.Entry.{Entry}
 use Rattle.dg_zero.specs.declared.entry.Event.{Event}
-use Rattle.dg_zero.specs.declared.entry.Event.TheVariants.{Begin, Commit, Refused, End, Alter, Look}
+use Rattle.dg_zero.specs.declared.entry.Event.TheVariants.{Begin, Refused, End, Alter, Look}
 use Rattle.dg_zero.specs.declared.entry.Reason.{Reason}
 use Rattle.dg_zero.specs.declared.offer.Offer.{Offer}
 use Rattle.dg_zero.specs.declared.place.Phase.TheVariants.{Idle}
 use Rattle.dg_zero.specs.declared.place.Place.{Place}
 use Rattle.dg_zero.specs.Counters.{next, Started, active, starts_of, is_active_of}
-use Rattle.dg_zero.specs.Legal.{Fits, FitsAlter, IsReason}
+use Rattle.dg_zero.specs.Legal.{Fits, IsReason}
 use Rattle.dg_zero.specs.Offers.{IsSound}
 use Rattle.dg_zero.specs.Places.{Places, places, places_after, tablets, fresh, fresh_place, is_held}
 use Rattle.dg_zero.specs.States.{IsKept, and_entry, commit_of, owners_of, KeepKinds, AreAlterParts}

@@ -1,5 +1,5 @@
 -- The first record of one entry more.
-use Rattle.std.proofs.Common.{◌≡◌, ℕ, ◌<◌, ◌≤◌, true, false, Bool, subst, sym, arith, cond, List, [], ◌∷◌, ◌++◌, Option, Some, None, refl, ap, ◌∙◌}
+use Rattle.std.proofs.Common.{◌≡◌, ℕ, ◌<◌, ◌≤◌, true, false, subst, arith, cond, List, [], ◌∷◌, ◌++◌, Option, Some, None, refl, ap, ◌∙◌}
 use Rattle.std.specs.Prelude.{find, nat_lt, nat_le, map}
 use Rattle.std.specs.List.{list_any}
 use Rattle.dg_zero.specs.declared.entry.Event.{Event}

@@ -1,5 +1,5 @@
 -- What a state of Zero is seen as, what it keeps, and what each call adds to the history.
-use Rattle.std.specs.Prelude.{◌≡◌, ℕ, ◌+◌, ◌-◌, ◌<◌, ◌≤◌, ◌^◌, true, List, [], ◌∷◌, ◌++◌, Option, Some, None, map, filter, option_map}
+use Rattle.std.specs.Prelude.{◌≡◌, ℕ, ◌+◌, ◌-◌, ◌≤◌, ◌^◌, true, List, [], ◌∷◌, ◌++◌, Option, Some, None, map, filter, option_map}
 use Rattle.std.specs.List.{AllByRecursion}
 use Rattle.dg_values.specs.Ascending.{ascending}
 use Rattle.dg_schema.specs.declared.definition.PredDef.{PredDef}

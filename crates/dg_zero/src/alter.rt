@@ -84,13 +84,7 @@ impl ZeroState {
             return Err(ZeroFault::Pending { start });
         }
         let tablets = self.tablets.as_slice();
-        Ok(make_altered(
-            self.alloc,
-            self.groups,
-            &self.schema,
-            tablets,
-            newer,
-        )?)
+        Ok(make_altered(self.alloc, self.groups, &self.schema, tablets, newer)?)
     }
 }
 

@@ -16,7 +16,9 @@ pub enum Reason {
 #[derive(Debug, Drop)]
 pub enum Event {
     /// A transaction began.
-    Begin { start: u64 },
+    Begin {
+        start: u64,
+    },
     /// The transaction with this start committed: its predicates, its conflict keys, and what it changes.
     Commit {
         start: u64,
@@ -25,11 +27,20 @@ pub enum Event {
         written: Record,
     },
     /// The commit of the transaction with this start was refused, which ended it.
-    Refused { start: u64, reason: Reason },
+    Refused {
+        start: u64,
+        reason: Reason,
+    },
     /// The transaction with this start ended.
-    End { start: u64 },
+    End {
+        start: u64,
+    },
     /// Nodes were leased: `count` from `first` on, above `top` and all that were leased before.
-    Lease { top: u64, count: u64, first: u64 },
+    Lease {
+        top: u64,
+        count: u64,
+        first: u64,
+    },
     /// Definitions were added or replaced, at the record's timestamp.
     Alter {
         start: u64,
@@ -37,19 +48,37 @@ pub enum Event {
         written: Record,
     },
     /// The purge line was advanced.
-    Line { line: u64 },
+    Line {
+        line: u64,
+    },
     /// A group's copy of a tablet was merged up to a timestamp.
-    Rolled { pred: Str, group: u32, upto: u64 },
+    Rolled {
+        pred: Str,
+        group: u32,
+        upto: u64,
+    },
     /// The move of a tablet to a group was started.
-    MoveStart { pred: Str, group: u32 },
+    MoveStart {
+        pred: Str,
+        group: u32,
+    },
     /// The new group was given a copy.
-    MoveCopied { pred: Str },
+    MoveCopied {
+        pred: Str,
+    },
     /// The tablet was held.
-    MoveHold { pred: Str },
+    MoveHold {
+        pred: Str,
+    },
     /// The new group became the owner; the old one's copy may be read up to a timestamp.
-    Flip { pred: Str, until: u64 },
+    Flip {
+        pred: Str,
+        until: u64,
+    },
     /// The move was called off.
-    MoveOff { pred: Str },
+    MoveOff {
+        pred: Str,
+    },
     /// Nothing changed.
     Look,
 }

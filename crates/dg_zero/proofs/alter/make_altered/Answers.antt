@@ -1,4 +1,4 @@
-use Rattle.std.proofs.Common.{◌≡◌, ◌∙◌, rules}
+use Rattle.std.proofs.Common.{rules}
 use Rattle.dg_zero.specs.Places.{fresh}
 use Rattle.dg_zero.proofs.NewTablets.{owners_more, tablets_back}
 use Rattle.dg_zero.proofs.alter.make_altered.Goals as goal

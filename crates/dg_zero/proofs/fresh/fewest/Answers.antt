@@ -1,4 +1,4 @@
-use Rattle.std.proofs.Common.{◌≡◌, ℕ, ◌+◌, ◌++◌, ◌∙◌, ap, sym, cond}
+use Rattle.std.proofs.Common.{ℕ, ◌+◌, ◌++◌, ◌∙◌, ap, sym, cond}
 use Rattle.std.specs.Prelude.{nat_lt}
 use Rattle.dg_zero.specs.Places.{owned}
 use Rattle.dg_zero.proofs.NewTablets.{fewest_push}

@@ -3,7 +3,6 @@ use Rattle.std.specs.Prelude.{option_copied, find, nat_lt, map}
 use Rattle.dg_keys.specs.declared.record.Record.{Record}
 use Rattle.dg_oracle.specs.Commits.{Ascends}
 use Rattle.dg_zero.specs.declared.entry.Entry.{Entry}
-use Rattle.dg_zero.specs.declared.past.Past.{Past}
 use Rattle.dg_zero.specs.Pasts.{entries}
 use Rattle.dg_zero.specs.Records.{record_of, records, next_record, first_of, ts_of}
 use Rattle.dg_zero.proofs.Streams.{next_record_push, first_of_three, ascend_before, none_past}

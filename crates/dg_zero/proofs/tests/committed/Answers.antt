@@ -1,4 +1,3 @@
-use Rattle.std.proofs.Common.{◌≡◌}
 use Rattle.dg_zero.proofs.EmptyOffers.{empty_offer}
 use Rattle.dg_zero.proofs.tests.committed.Goals as goal
 

@@ -1,4 +1,4 @@
-use Rattle.std.proofs.Common.{◌≡◌, ◌∙◌, rules, ap, sym}
+use Rattle.std.proofs.Common.{◌∙◌, rules, ap, sym}
 use Rattle.std.specs.Arc.{arc_value}
 use Rattle.dg_zero.specs.Pasts.{entries}
 use Rattle.dg_zero.specs.States.{Zero}

@@ -1,19 +1,13 @@
-use Rattle.std.proofs.Common.{◌≡◌, ◌∙◌, ◌^◌, ℕ, List, [], None, ap, sym, subst, rules}
+use Rattle.std.proofs.Common.{◌≡◌, ◌∙◌, ℕ, List, None, ap, subst}
 use Rattle.std.specs.Arc.{arc_value}
-use Rattle.dg_keys.specs.declared.conflict.ConflictKey.{ConflictKey}
-use Rattle.dg_keys.specs.Conflicts.{conflict_cmp}
 use Rattle.dg_keys.proofs.Ascents.{sorted_from_ascends}
-use Rattle.dg_oracle.specs.Commits as oracle
-use Rattle.dg_oracle.specs.declared.fault.OracleFault.{OracleFault}
-use Rattle.dg_oracle.specs.declared.fault.OracleFault.TheVariants as draws
 use Rattle.dg_oracle.specs.Faults as faults
 use Rattle.dg_zero.specs.declared.entry.Entry.{Entry}
 use Rattle.dg_zero.specs.declared.entry.Event.{Event}
 use Rattle.dg_zero.specs.declared.entry.Event.TheVariants.{Look}
-use Rattle.dg_zero.specs.declared.fault.CommitFault.{CommitFault}
 use Rattle.dg_zero.specs.Counters.{next}
 use Rattle.dg_zero.specs.Pasts.{entries}
-use Rattle.dg_zero.specs.States.{Zero, IsKept, IsRefusal, and_entry, and_then, commit_of, commit_fault_of}
+use Rattle.dg_zero.specs.States.{Zero, and_entry, commit_of}
 use Rattle.dg_zero.specs.Verdicts.{verdict}
 use Rattle.dg_zero.proofs.Kept.{look_keeps}
 use Rattle.dg_zero.proofs.Committing.{oracle_active, over_oracle, clear, committed, drawn_refused}
