@@ -8,7 +8,9 @@ use Rattle.std.proofs.Math.Bool.{or-false, or-true, or_assoc}
 use Rattle.std.proofs.lemmas.List.Folds.{list_any-append}
 use Rattle.dg_values.specs.Order.{same_text}
 use Rattle.dg_node.specs.declared.machine.Declared.{Declared}
-use Rattle.dg_node.specs.Schemas.{PredDef, is_named, is_declared, replaced, with_definition, with_definitions, after_alter, schema_at, present_schema, is_single_by, is_single}
+use Rattle.dg_schema.specs.declared.definition.PredDef.{PredDef}
+use Rattle.dg_schema.specs.Definitions.{is_named, is_declared, replaced, with_definition, with_definitions, is_single_by, is_single}
+use Rattle.dg_node.specs.Schemas.{after_alter, schema_at, present_schema}
 use Rattle.dg_node.specs.Alters.{string_definition}
 use Rattle.dg_node.specs.Plain.{alter_of, is_declared_by}
 use Rattle.dg_node.proofs.CutLemmas.{same_bytes}

@@ -5,7 +5,7 @@ use Rattle.dg_wire.specs.declared.refusal.Refusal.TheVariants as refusals
 use Rattle.dg_wire.specs.declared.reply.Reply.{Reply}
 use Rattle.dg_wire.specs.declared.reply.Reply.TheVariants as replies
 use Rattle.dg_node.specs.Bodies.{Declares}
-use Rattle.dg_node.specs.Schemas.{PredDef}
+use Rattle.dg_schema.specs.declared.definition.PredDef.{PredDef}
 use Rattle.dg_node.specs.Machine.{Machine, TIMESTAMP_END}
 use Rattle.dg_node.specs.Replying.{refused, IsUnbuilt}
 

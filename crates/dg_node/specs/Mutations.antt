@@ -6,9 +6,10 @@ use Rattle.dg_wire.specs.declared.refusal.Refusal.TheVariants as refusals
 use Rattle.dg_wire.specs.declared.reply.Reply.{Reply}
 use Rattle.dg_wire.specs.declared.reply.Reply.TheVariants as replies
 use Rattle.dg_node.specs.Bodies.{Sets}
-use Rattle.dg_node.specs.Schemas.{is_declared, present_schema}
-use Rattle.dg_node.specs.Graphs.{Change}
-use Rattle.dg_node.specs.Graphs.Change.{Set}
+use Rattle.dg_schema.specs.Definitions.{is_declared}
+use Rattle.dg_node.specs.Schemas.{present_schema}
+use Rattle.dg_graph.specs.declared.change.Change.{Change}
+use Rattle.dg_graph.specs.declared.change.Change.TheVariants.{Set}
 use Rattle.dg_node.specs.Machine.{Machine, is_open, with_change}
 use Rattle.dg_node.specs.Transactions.{IsBuiltSession}
 use Rattle.dg_node.specs.Replying.{refused, IsUnbuilt}

@@ -10,7 +10,8 @@ use Rattle.dg_node.specs.declared.machine.Declared.{Declared}
 use Rattle.dg_node.specs.declared.machine.Committed.{Committed}
 use Rattle.dg_node.specs.declared.machine.Opened.{Opened}
 use Rattle.dg_node.specs.Schemas.{Alter}
-use Rattle.dg_node.specs.Graphs.{Change, Commit}
+use Rattle.dg_graph.specs.declared.change.Change.{Change}
+use Rattle.dg_node.specs.Graphs.{Commit}
 use Rattle.dg_node.specs.Machine.{Session}
 use Rattle.dg_node.specs.Alters.{string_definition}
 use Rattle.dg_node.specs.Mutations.{text_set}

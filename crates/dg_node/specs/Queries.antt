@@ -7,7 +7,8 @@ use Rattle.dg_wire.specs.declared.refusal.Refusal.TheVariants as refusals
 use Rattle.dg_wire.specs.declared.reply.Reply.{Reply}
 use Rattle.dg_wire.specs.declared.reply.Reply.TheVariants as replies
 use Rattle.dg_node.specs.Bodies.{Asks}
-use Rattle.dg_node.specs.Graphs.{objects, graph_at}
+use Rattle.dg_graph.specs.Graphs.{objects}
+use Rattle.dg_node.specs.Graphs.{graph_at}
 use Rattle.dg_node.specs.Machine.{Machine, Session, session_of}
 use Rattle.dg_node.specs.Transactions.{IsBuiltSession}
 use Rattle.dg_node.specs.Replying.{refused, IsUnbuilt}

@@ -3,7 +3,7 @@ use Rattle.std.specs.Prelude.{◌≡◌, ℕ, ◌+◌, ◌⊎◌, nat_lt, if◌t
 use Rattle.dg_wire.specs.declared.refusal.Refusal.TheVariants as refusals
 use Rattle.dg_wire.specs.declared.reply.Reply.{Reply}
 use Rattle.dg_wire.specs.declared.reply.Reply.TheVariants as replies
-use Rattle.dg_node.specs.Graphs.{Change}
+use Rattle.dg_graph.specs.declared.change.Change.{Change}
 use Rattle.dg_node.specs.Machine.{Machine, Session, TIMESTAMP_END, session_of, is_open, with_session, without_session, drawn}
 use Rattle.dg_node.specs.Replying.{refused, IsUnbuilt}
 

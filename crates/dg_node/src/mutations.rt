@@ -18,7 +18,8 @@ impl PlainMachine {
     ghost use Rattle.std.specs.List.{list_all};
     ghost use Rattle.dg_wire.specs.Names.{is_name};
     ghost use Rattle.dg_node.specs.Bodies.{is_plain};
-    ghost use Rattle.dg_node.specs.Schemas.{is_declared, present_schema};
+    ghost use Rattle.dg_schema.specs.Definitions.{is_declared};
+    ghost use Rattle.dg_node.specs.Schemas.{present_schema};
     ghost use Rattle.dg_node.specs.Mutations.{Mutates, SetsDeclared, mutated, text_set};
     ghost use Rattle.dg_node.specs.State.{state_of};
 

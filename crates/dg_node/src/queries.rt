@@ -18,7 +18,8 @@ impl PlainMachine {
     ghost use Rattle.std.specs.Option.{option_copied};
     ghost use Rattle.dg_node.specs.Queries.{Queries, queried, seen};
     ghost use Rattle.dg_node.specs.Plain.{objects_of, sessions_of};
-    ghost use Rattle.dg_node.specs.Graphs.{objects, graph_at};
+    ghost use Rattle.dg_graph.specs.Graphs.{objects};
+    ghost use Rattle.dg_node.specs.Graphs.{graph_at};
     ghost use Rattle.dg_node.specs.Plain.{change_of};
     ghost use Rattle.std.specs.Prelude.{map};
     ghost use Rattle.dg_node.specs.State.{state_of};

@@ -4,7 +4,8 @@ use Rattle.std.specs.Option.{option_copied}
 use Rattle.dg_node.specs.declared.facts.Fact.{Fact}
 use Rattle.dg_node.specs.declared.machine.Committed.{Committed}
 use Rattle.dg_node.specs.declared.machine.Opened.{Opened}
-use Rattle.dg_node.specs.Graphs.{objects, graph_at}
+use Rattle.dg_graph.specs.Graphs.{objects}
+use Rattle.dg_node.specs.Graphs.{graph_at}
 use Rattle.dg_node.specs.Plain.{objects_of, objects_after, objects_after_commits, alter_of, commit_of, change_of, IsKept}
 use Rattle.dg_node.proofs.GraphLemmas.{objects-seen}
 use Rattle.dg_node.proofs.KeptLemmas.{kept_parts, session_parts}

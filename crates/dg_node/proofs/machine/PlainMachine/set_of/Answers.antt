@@ -1,6 +1,7 @@
 use Rattle.std.proofs.Common.{ap, sym, ◌∙◌}
 use Rattle.std.proofs.lemmas.Bool.{false≢true}
-use Rattle.dg_node.specs.Schemas.{is_declared, present_schema}
+use Rattle.dg_schema.specs.Definitions.{is_declared}
+use Rattle.dg_node.specs.Schemas.{present_schema}
 use Rattle.dg_node.specs.State.{state_of}
 use Rattle.dg_node.proofs.ScanLemmas.{sets_one}
 use Rattle.dg_node.proofs.machine.PlainMachine.set_of.Goals as goal
