@@ -102,5 +102,6 @@ abbrev pub IsLegalAfter : ℕ → List Entry → List Entry → Type 0
 IsLegalAfter n before [] = Unit {0}
 IsLegalAfter n before (e ∷ after) = Fits n before e.author e.event × IsLegalAfter n (before ++ e ∷ []) after
 
+-- a legal history of n groups: each entry fits those before it
 abbrev pub IsLegal : ℕ → List Entry → Type 0
 IsLegal n history = IsLegalAfter n [] history

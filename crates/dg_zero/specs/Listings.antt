@@ -27,19 +27,23 @@ abbrev pub tokens_of_object : Tokenizer → Posting → List IndexToken
 tokens_of_object tokenizer (Uid n) = []
 tokens_of_object tokenizer (Val value) = tokens_of tokenizer value
 
+-- the token is one of the object
 abbrev pub has_token : IndexToken → Posting → Bool
 has_token t object = has index_token_cmp (tokens_of_object t.tokenizer object) t
 
+-- the predicate has an index by this tokenizer
 abbrev pub has_tokenizer : PredDef → Tokenizer → Bool
 has_tokenizer def tokenizer = has tokenizer_cmp def.tokens tokenizer
 
--- the nodes with exactly n objects, and the nodes that exactly n subjects point to
+-- the nodes with exactly n objects, ascending
 abbrev pub with_objects : List Triple → List ℕ → ℕ → List ℕ
 with_objects graph p n = filter (λ s. length (objects graph p s) == n) (subjects_where (λ o. true) graph p)
 
+-- the nodes that exactly n subjects point to, ascending
 abbrev pub with_subjects : List Triple → List ℕ → ℕ → List Posting
 with_subjects graph p n = filter (λ o. length (subjects_of graph p o) == n) (all_objects graph p)
 
+-- nodes as postings
 abbrev pub nodes : List ℕ → List Posting
 nodes ns = map (λ n. Uid n) ns
 
@@ -61,11 +65,12 @@ pub record AreGainsAndLosses (schema : List PredDef) (graph : List Triple) (new_
   pub parts_are : AreParts parts
   pub exact : (key : Key) → ops_at parts key ≡ changes_between (listing schema graph key) (listing new_schema new_graph key)
 
--- the triple of a change, and the objects that it touches
+-- the triple of a change
 abbrev pub triple_of : Change → Triple
 triple_of (Set t) = t
 triple_of (Del t) = t
 
+-- the objects that a change touches: its own, and those that it takes the place of
 abbrev pub touched : PredDef → List Triple → Change → List Posting
 touched def graph (Set t) = t.o ∷ (if def.list then [] else objects graph t.p t.s)
 touched def graph (Del t) = t.o ∷ []
@@ -74,9 +79,11 @@ touched def graph (Del t) = t.o ∷ []
 abbrev pub keys_of_token : PredDef → Triple → IndexToken → List ConflictKey
 keys_of_token def t token = conflicts.Index t.p token (Some t.s) ∷ (if def.upsert then conflicts.Index t.p token None ∷ [] else [])
 
+-- the keys of an object: those of each of its tokens
 abbrev pub keys_of_object : PredDef → Triple → Posting → List ConflictKey
 keys_of_object def t object = flat_map (keys_of_token def t) (flat_map (λ tokenizer. tokens_of_object tokenizer object) def.tokens)
 
+-- the key of a node that is pointed to
 abbrev pub reverse_keys : Triple → Posting → List ConflictKey
 reverse_keys t (Uid n) = conflicts.RCount t.p n ∷ []
 reverse_keys t (Val value) = []

@@ -18,19 +18,24 @@ pub record Copy : Type 0 where
   pub mark : ℕ
   pub until : Option ℕ
 
+-- all tablets, in the order in which they were declared, and all copies
 pub record Places : Type 0 where
   pub tablets : List Place
   pub copies : List Copy
 
+-- the tablet is of this predicate
 abbrev pub is_place_of : List ℕ → Place → Bool
 is_place_of pred place = same_text place.pred pred
 
+-- the tablet of a predicate, where it has one
 abbrev pub place_of : List Place → List ℕ → Option Place
 place_of tablets pred = find (is_place_of pred) tablets
 
+-- the copy is of this predicate, at this group
 abbrev pub is_copy_at : List ℕ → ℕ → Copy → Bool
 is_copy_at pred group copy = same_text copy.pred pred && (copy.group == group)
 
+-- a group's copy of a tablet, where it has one
 abbrev pub copy_at : List Copy → List ℕ → ℕ → Option Copy
 copy_at copies pred group = find (is_copy_at pred group) copies
 
@@ -46,10 +51,11 @@ on_place pred change tablets = map (λ t. if is_place_of pred t then change t el
 abbrev pub on_copy : List ℕ → ℕ → (Copy → Copy) → List Copy → List Copy
 on_copy pred group change copies = map (λ c. if is_copy_at pred group c then change c else c) copies
 
--- at rest at a group, and in a phase on the way to one
+-- the tablet at rest at a group
 abbrev pub at_rest : List ℕ → ℕ → Place
 at_rest pred group = record { pred = pred; group = group; phase = Idle; to = group }
 
+-- the tablet in a phase of its move, on the way to a group
 abbrev pub in_phase : Phase → ℕ → Place → Place
 in_phase phase to t = record { pred = t.pred; group = t.group; phase = phase; to = to }
 
@@ -65,9 +71,11 @@ abbrev pub is_kept_by : ℕ → Option ℕ → Bool
 is_kept_by line None = true
 is_kept_by line (Some until) = nat_lt line until
 
+-- a new tablet is at rest at its group
 abbrev pub fresh_place : Tablet → Place
 fresh_place t = at_rest t.pred t.group
 
+-- and its group has a copy, merged up to nothing
 abbrev pub fresh_copy : Tablet → Copy
 fresh_copy t = record { pred = t.pred; group = t.group; mark = 0; until = None }
 
@@ -98,15 +106,19 @@ places_after s (Rolled pred group upto) = record { tablets = s.tablets; copies =
 places_after s (Line line) = record { tablets = s.tablets; copies = filter (λ c. is_kept_by line c.until) s.copies }
 places_after s event = s
 
+-- where tablets and copies are after a history
 abbrev pub places : List Entry → Places
 places history = fold (λ s e. places_after s e.event) (record { tablets = []; copies = [] }) history
 
+-- the tablets after a history
 abbrev pub tablets : List Entry → List Place
 tablets history = (places history).tablets
 
+-- the copies after a history
 abbrev pub copies : List Entry → List Copy
 copies history = (places history).copies
 
+-- the group that owns the tablet of a predicate, where it has one
 abbrev pub owner : List Entry → List ℕ → Option ℕ
 owner history pred = option_map (λ t. t.group) (place_of (tablets history) pred)
 
@@ -122,13 +134,16 @@ abbrev pub phase_by : Option Place → Phase
 phase_by None = Idle
 phase_by (Some t) = t.phase
 
+-- the phase of the tablet of a predicate
 abbrev pub phase : List Entry → List ℕ → Phase
 phase history pred = phase_by (place_of (tablets history) pred)
 
+-- commits are refused in this phase
 abbrev pub is_held_phase : Phase → Bool
 is_held_phase Held = true
 is_held_phase phase = false
 
+-- the tablet of a predicate is held
 abbrev pub is_held : List Place → List ℕ → Bool
 is_held tablets pred = is_held_phase (phase_by (place_of tablets pred))
 

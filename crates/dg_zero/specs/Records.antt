@@ -32,6 +32,7 @@ next_record history after = find (λ r. nat_lt after r.ts) (records history)
 abbrev pub records_between : List Entry → ℕ → ℕ → List Record
 records_between history mark upto = filter (λ r. nat_lt mark r.ts && nat_le r.ts upto) (records history)
 
+-- the keys of a tablet that a record changes
 abbrev pub keys_of : List ℕ → Record → List Key
 keys_of pred r = filter (λ key. same_text (pred_of key) pred) (map (λ (part : Part). part.key) r.parts)
 

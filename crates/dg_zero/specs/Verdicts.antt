@@ -25,6 +25,7 @@ commit_of event = []
 abbrev pub commits : List Entry → List (oracle.Commit ConflictKey)
 commits history = flat_map (λ e. commit_of e.event) history
 
+-- the first of these, where there is one
 abbrev pub first : {X : Type 0} → List X → Option X
 first [] = None
 first (x ∷ xs) = Some x
