@@ -1,0 +1,5 @@
+pub mod OpLaws
+pub mod PartLaws
+pub mod AgreeLaws
+pub mod EdgeLaws
+pub mod OfferLaws
