@@ -61,7 +61,7 @@ ops_lead : (schema : List PredDef) (graph goal : List Triple) (p : List ℕ) (s 
 ops_lead schema graph goal p s [] l m a d = tt
 ops_lead schema graph goal p s (op ∷ os) l m a d = (op_leads schema graph goal p s op l m a.0 d.0, ops_lead schema graph goal p s os l m a.1 d.1)
 
-key_leads : (schema : List PredDef) (graph goal : List Triple) (key : Key) → IsLawful schema graph → IsLawful schema goal → AllByRecursion (IsOfDifference graph goal) (changes_at key (gains schema graph goal key))
+pub key_leads : (schema : List PredDef) (graph goal : List Triple) (key : Key) → IsLawful schema graph → IsLawful schema goal → AllByRecursion (IsOfDifference graph goal) (changes_at key (gains schema graph goal key))
 key_leads schema graph goal (keys.Data p s) l m = ops_lead schema graph goal p s (gains schema graph goal (keys.Data p s)) l m (between_agrees (listing schema graph (keys.Data p s)) (listing schema goal (keys.Data p s))) (between_differs (listing schema graph (keys.Data p s)) (listing schema goal (keys.Data p s)))
 key_leads schema graph goal (keys.Index p t) l m = tt
 key_leads schema graph goal (keys.Reverse p t) l m = tt
@@ -186,7 +186,7 @@ keys_stay schema graph cs plain fit = ap (ascending conflict_cmp) (keys_in_turn 
 -- ---- soundness
 
 -- a change of a triple that differs fits
-differing_fits : (schema : List PredDef) (graph goal : List Triple) (t : Triple) → IsLawful schema graph → IsLawful schema goal → (has_triple graph t ≡ has_triple goal t → ⊥) → fits schema t ≡ true
+pub differing_fits : (schema : List PredDef) (graph goal : List Triple) (t : Triple) → IsLawful schema graph → IsLawful schema goal → (has_triple graph t ≡ has_triple goal t → ⊥) → fits schema t ≡ true
 differing_fits schema graph goal t l m ne = by (has_triple graph t) (has_triple goal t) refl refl
   where
     by : (a b : Bool) → has_triple graph t ≡ a → has_triple goal t ≡ b → fits schema t ≡ true

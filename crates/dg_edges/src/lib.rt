@@ -3,4 +3,4 @@
 
 mod laws;
 
-pub use laws::{changes_as_parts, offers};
+pub use laws::{changes_as_parts, commits_as_changes, offers};
