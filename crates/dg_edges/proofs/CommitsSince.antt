@@ -141,12 +141,12 @@ reached_committed n g author start other preds keys written l f plain r =
       others = r.others ++ d ∷ [];
       keyed = subst (λ (w : World). AllByRecursion (IsKeyed w.schema) (r.others ++ d ∷ [])) (sym now) (all_push (IsKeyed (schema g)) r.others d r.keyed its);
       committed = all_push (IsCommitted (g ++ e ∷ []) start) r.others d (all_with (IsCommitted g start) (IsCommitted (g ++ e ∷ []) start) r.others (λ o c. still_committed g e start o c) r.committed)
-        (λ key none. later_key start written.ts (has conflict_cmp keys key) (omega (arith, r.drawn_is, f.ts)) (last_clear (commits g) (record { ts = written.ts; keys = keys }) start key (subst (λ (cs : List (oracle.Commit ConflictKey)). judged.HasNoClash conflict_cmp cs start key) (commits_push g e) none)));
+          (λ key none. later_key start written.ts (has conflict_cmp keys key) (omega (arith, r.drawn_is, f.ts)) (last_clear (commits g) (record { ts = written.ts; keys = keys }) start key (subst (λ (cs : List (oracle.Commit ConflictKey)). judged.HasNoClash conflict_cmp cs start key) (commits_push g e) none)));
       graph_is =
-        ap (λ (w : World). w.graph) now
-        ∙ (ap (λ (h : List Triple). after_changes (schema g) h (changes_of written.parts)) r.graph_is
-        ∙ (sym (fold-append (λ (h : List Triple) (o : Done). after_changes (schema g) h o.changes) (world_at g start).graph r.others (d ∷ []))
-        ∙ sym (λ i. after_done (now i).schema (start_stays n g e start r.drawn_is f i).graph (r.others ++ d ∷ []))));
+          ap (λ (w : World). w.graph) now
+          ∙ (ap (λ (h : List Triple). after_changes (schema g) h (changes_of written.parts)) r.graph_is
+          ∙ (sym (fold-append (λ (h : List Triple) (o : Done). after_changes (schema g) h o.changes) (world_at g start).graph r.others (d ∷ []))
+          ∙ sym (λ i. after_done (now i).schema (start_stays n g e start r.drawn_is f i).graph (r.others ++ d ∷ []))));
     }
 
 -- ---- by each entry
@@ -224,7 +224,7 @@ histories_do_as_changes n h author start preds keys cs l plain on fit is clear =
     let lawful = graphs_are_lawful n h start l in
     let mine : keys ≡ ascending conflict_cmp (data_conflicts (schema_at h start) cs) = is ∙ keys_stay (schema_at h start) (graph_at h start []) cs plain fit in
     let free : AllByRecursion (judged.HasNoClash conflict_cmp (commits h) start) (data_conflicts (schema_at h start) cs) =
-      each_ascending (judged.HasNoClash conflict_cmp (commits h) start) (data_conflicts (schema_at h start) cs) (subst (λ (ks : List ConflictKey). AllByRecursion (judged.HasNoClash conflict_cmp (commits h) start) ks) mine (none_clashes h start preds keys clear)) in
+    each_ascending (judged.HasNoClash conflict_cmp (commits h) start) (data_conflicts (schema_at h start) cs) (subst (λ (ks : List ConflictKey). AllByRecursion (judged.HasNoClash conflict_cmp (commits h) start) ks) mine (none_clashes h start preds keys clear)) in
     let keyed : AllByRecursion (IsKeyed (schema_at h start)) r.others = subst (λ (s : List PredDef). AllByRecursion (IsKeyed s) r.others) (sym same) r.keyed in
     let law = commits_do_as_changes (schema_at h start) (graph_at h start []) cs r.others plain fit lawful keyed (none_has h start (data_conflicts (schema_at h start) cs) r.others free r.committed) in
     let now : (world h).graph ≡ after_done (schema_at h start) (graph_at h start []) r.others = r.graph_is ∙ λ i. after_done (sym same i) (graph_at h start []) r.others in

@@ -5,3 +5,5 @@ pub mod EdgeLaws
 pub mod OfferLaws
 pub mod SoundParts
 pub mod CommitsSince
+pub mod BetweenLaws
+pub mod ListLaws
