@@ -65,10 +65,10 @@ other_keys schema c f (k ∷ ks) h =
     let both = or_parts (is_eq (key_cmp k (data_key c))) (has key_cmp ks (data_key c)) h in
     λ i. sym (other_key schema c k (f k) both.0) i ∷ other_keys schema c f ks both.1 i
 
-all_at : (P : Key → Type 0) (ks : List Key) (place : ℕ) (d : Key) → place < length ks → AllByRecursion P ks → P (get_or ks place d)
+pub all_at : {X : Type 0} (P : X → Type 0) (xs : List X) (place : ℕ) (d : X) → place < length xs → AllByRecursion P xs → P (get_or xs place d)
 all_at P [] place d lt a = absurd (omega arith)
-all_at P (k ∷ ks) zero d lt a = a.0
-all_at P (k ∷ ks) (suc place) d lt a = all_at P ks place d (omega arith) a.1
+all_at P (x ∷ xs) zero d lt a = a.0
+all_at P (x ∷ xs) (suc place) d lt a = all_at P xs place d (omega arith) a.1
 
 -- the objects at the place of a change's key
 pub at_place : (schema : List PredDef) (c : Change) (f : Key → Lists) (ks : List Key) (place : ℕ) → Ascends key_cmp ks → place < length ks → get_or ks place (data_key c) ≡ data_key c → set (map f ks) place (changed_at schema c (data_key c) (f (data_key c))) ≡ map (λ k. changed_at schema c k (f k)) ks
