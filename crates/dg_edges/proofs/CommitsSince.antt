@@ -10,6 +10,7 @@ use Rattle.dg_values.specs.Ascending.{has, ascending}
 use Rattle.dg_sets.proofs.Sets.{all_with}
 use Rattle.dg_schema.specs.declared.definition.PredDef.{PredDef}
 use Rattle.dg_graph.specs.declared.change.Triple.{Triple}
+use Rattle.dg_graph.specs.declared.change.Change.{Change}
 use Rattle.dg_graph.specs.Graphs.{after_changes}
 use Rattle.dg_keys.specs.declared.conflict.ConflictKey.{ConflictKey}
 use Rattle.dg_keys.specs.declared.record.Record.{Record}
@@ -28,15 +29,17 @@ use Rattle.dg_zero.specs.Counters.{drawn, next, Started, ended, active_after, ac
 use Rattle.dg_zero.specs.Worlds.{World, world, world_after, world_at, schema, schema_at, graph_at, changes_of}
 use Rattle.dg_zero.specs.Places.{tablets}
 use Rattle.dg_zero.specs.Verdicts.{commits, commit_of, least_held, conflict, reason_by, verdict}
+use Rattle.dg_zero.specs.Listings.{conflict_keys}
 use Rattle.dg_zero.specs.Legal.{Fits, IsLegal}
 use Rattle.dg_zero.proofs.Histories.{next_push, active_push, commits_push, legal_push}
 use Rattle.dg_zero.proofs.LawsOfHistories.{kept_from, anyone, world_push, world_at_push, no_more, present_is_last}
 use Rattle.dg_zero.proofs.SchemasStay.{schemas_stay}
 use Rattle.dg_zero.proofs.LawfulGraphs.{graphs_are_lawful}
 use Rattle.dg_zero.proofs.Refusals.{named}
-use Rattle.dg_edges.specs.Deltas.{data_conflicts, deltas, IsPlain}
-use Rattle.dg_edges.specs.Laws.{Done, IsKeyed, after_done, HistoriesDoAsChanges}
-use Rattle.dg_edges.proofs.OfferLaws.{keys_stay, commits_do_as_changes}
+use Rattle.dg_edges.specs.Deltas.{data_conflicts, deltas, IsPlain, AreFitting}
+use Rattle.dg_edges.specs.Laws.{Done, IsKeyed, HasNone, after_done, HistoriesDoAsChanges, HistoriesKeepParts}
+use Rattle.dg_edges.proofs.OfferLaws.{keys_stay, others_leave, lawful_done, commits_do_as_changes}
+use Rattle.dg_edges.proofs.PartsStay.{parts_stay}
 use Rattle.dg_edges.proofs.SoundParts.{each_ascending, sound_keyed}
 
 -- ---- a clear verdict: no commit above the start has one of the keys
@@ -217,15 +220,38 @@ none_has h start keys others clear committed =
     (λ d c. all_with (judged.HasNoClash conflict_cmp (commits h) start) (λ key. has conflict_cmp d.keys key ≡ false) keys (λ key none. c key none) clear)
     committed
 
-pub histories_do_as_changes : HistoriesDoAsChanges
-histories_do_as_changes n h author start preds keys cs l plain on fit is clear =
+-- what others committed since the start fits, names what it touches, and has no key of the changes
+record IsFree (schema : List PredDef) (graph : List Triple) (h : List Entry) (cs : List Change) : Type 0 where
+  others : List Done
+  keyed : AllByRecursion (IsKeyed schema) others
+  free : AllByRecursion (HasNone schema cs) others
+  graph_is : (world h).graph ≡ after_done schema graph others
+
+is_free : (n : ℕ) (h : List Entry) (author start : ℕ) (preds : List (List ℕ)) (keys : List ConflictKey) (cs : List Change) → IsLegal n h → IsPlain (schema_at h start) → is_active_of (active h) start author ≡ true → AreFitting (schema_at h start) cs → keys ≡ conflict_keys (schema_at h start) (graph_at h start []) cs → verdict h start preds keys ≡ None → IsFree (schema_at h start) (graph_at h start []) h cs
+is_free n h author start preds keys cs l plain on fit is clear =
     let same : schema_at h start ≡ schema h = schemas_stay n h start author l on in
     let r = reached n h start author l on (subst IsPlain same plain) in
-    let lawful = graphs_are_lawful n h start l in
     let mine : keys ≡ ascending conflict_cmp (data_conflicts (schema_at h start) cs) = is ∙ keys_stay (schema_at h start) (graph_at h start []) cs plain fit in
     let free : AllByRecursion (judged.HasNoClash conflict_cmp (commits h) start) (data_conflicts (schema_at h start) cs) =
     each_ascending (judged.HasNoClash conflict_cmp (commits h) start) (data_conflicts (schema_at h start) cs) (subst (λ (ks : List ConflictKey). AllByRecursion (judged.HasNoClash conflict_cmp (commits h) start) ks) mine (none_clashes h start preds keys clear)) in
-    let keyed : AllByRecursion (IsKeyed (schema_at h start)) r.others = subst (λ (s : List PredDef). AllByRecursion (IsKeyed s) r.others) (sym same) r.keyed in
-    let law = commits_do_as_changes (schema_at h start) (graph_at h start []) cs r.others plain fit lawful keyed (none_has h start (data_conflicts (schema_at h start) cs) r.others free r.committed) in
-    let now : (world h).graph ≡ after_done (schema_at h start) (graph_at h start []) r.others = r.graph_is ∙ λ i. after_done (sym same i) (graph_at h start []) r.others in
-    (λ i. after_changes (sym same i) (now i) cs) ∙ (law ∙ sym (λ i. after_changes (sym same i) (now i) (changes_of (deltas (schema_at h start) (graph_at h start []) cs))))
+    record {
+      others = r.others;
+      keyed = subst (λ (s : List PredDef). AllByRecursion (IsKeyed s) r.others) (sym same) r.keyed;
+      free = none_has h start (data_conflicts (schema_at h start) cs) r.others free r.committed;
+      graph_is = r.graph_is ∙ λ i. after_done (sym same i) (graph_at h start []) r.others;
+    }
+
+pub histories_do_as_changes : HistoriesDoAsChanges
+histories_do_as_changes n h author start preds keys cs l plain on fit is clear =
+    let same : schema_at h start ≡ schema h = schemas_stay n h start author l on in
+    let f = is_free n h author start preds keys cs l plain on fit is clear in
+    let law = commits_do_as_changes (schema_at h start) (graph_at h start []) cs f.others plain fit (graphs_are_lawful n h start l) f.keyed f.free in
+    (λ i. after_changes (sym same i) (f.graph_is i) cs) ∙ (law ∙ sym (λ i. after_changes (sym same i) (f.graph_is i) (changes_of (deltas (schema_at h start) (graph_at h start []) cs))))
+
+pub histories_keep_parts : HistoriesKeepParts
+histories_keep_parts n h author start preds keys cs l plain on fit is clear =
+    let same : schema_at h start ≡ schema h = schemas_stay n h start author l on in
+    let lawful = graphs_are_lawful n h start l in
+    let f = is_free n h author start preds keys cs l plain on fit is clear in
+    let law = parts_stay (schema_at h start) (graph_at h start []) (after_done (schema_at h start) (graph_at h start []) f.others) cs plain fit lawful (lawful_done (schema_at h start) (graph_at h start []) f.others f.keyed lawful) (others_leave (schema_at h start) (graph_at h start []) cs f.others f.keyed f.free) in
+    (λ i. deltas (sym same i) (f.graph_is i) cs) ∙ law

@@ -3,6 +3,7 @@ pub mod PartLaws
 pub mod AgreeLaws
 pub mod EdgeLaws
 pub mod OfferLaws
+pub mod PartsStay
 pub mod SoundParts
 pub mod CommitsSince
 pub mod BetweenLaws

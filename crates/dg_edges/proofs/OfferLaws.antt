@@ -305,7 +305,7 @@ others_leave schema graph cs (d ∷ ds) k none u h =
     sym (changes_by_triple schema graph d.changes u ∙ all_apart schema u (has_triple graph u) d.changes (clear_of schema u cs d h k.0 none.0))
     ∙ others_leave schema (after_changes schema graph d.changes) cs ds k.1 none.1 u h
 
-lawful_done : (schema : List PredDef) (graph : List Triple) (ds : List Done) → AllByRecursion (IsKeyed schema) ds → IsLawful schema graph → IsLawful schema (after_done schema graph ds)
+pub lawful_done : (schema : List PredDef) (graph : List Triple) (ds : List Done) → AllByRecursion (IsKeyed schema) ds → IsLawful schema graph → IsLawful schema (after_done schema graph ds)
 lawful_done schema graph [] k l = l
 lawful_done schema graph (d ∷ ds) k l = lawful_done schema (after_changes schema graph d.changes) ds k.1 (lawful_goal schema graph d.changes k.0.fitting l)
 

@@ -43,6 +43,10 @@ AgreeAt schema changes graph later = (u : Triple) → has conflict_cmp (data_con
 abbrev pub ChangesDoAsParts : Type 0
 ChangesDoAsParts = (schema : List PredDef) (graph later : List Triple) (changes : List Change) → IsPlain schema → AreFitting schema changes → IsLawful schema graph → IsLawful schema later → AgreeAt schema changes graph later → after_changes schema later changes ≡ after_changes schema later (changes_of (deltas schema graph changes))
 
+-- and lists gain and lose by them what they did
+abbrev pub PartsStay : Type 0
+PartsStay = (schema : List PredDef) (graph later : List Triple) (changes : List Change) → IsPlain schema → AreFitting schema changes → IsLawful schema graph → IsLawful schema later → AgreeAt schema changes graph later → deltas schema later changes ≡ deltas schema graph changes
+
 -- what another transaction committed: its changes and its keys
 pub record Done : Type 0 where
   pub changes : List Change
@@ -73,6 +77,10 @@ CommitsDoAsChanges = (schema : List PredDef) (graph : List Triple) (changes : Li
 -- were made of them at the start do on the present graph what the changes do
 abbrev pub HistoriesDoAsChanges : Type 0
 HistoriesDoAsChanges = (n : ℕ) (history : List Entry) (author start : ℕ) (preds : List (List ℕ)) (keys : List ConflictKey) (changes : List Change) → IsLegal n history → IsPlain (schema_at history start) → is_active_of (active history) start author ≡ true → AreFitting (schema_at history start) changes → keys ≡ conflict_keys (schema_at history start) (graph_at history start []) changes → verdict history start preds keys ≡ None → after_changes (schema history) (world history).graph changes ≡ after_changes (schema history) (world history).graph (changes_of (deltas (schema_at history start) (graph_at history start []) changes))
+
+-- and they are what lists gain and lose by the changes in the present graph
+abbrev pub HistoriesKeepParts : Type 0
+HistoriesKeepParts = (n : ℕ) (history : List Entry) (author start : ℕ) (preds : List (List ℕ)) (keys : List ConflictKey) (changes : List Change) → IsLegal n history → IsPlain (schema_at history start) → is_active_of (active history) start author ≡ true → AreFitting (schema_at history start) changes → keys ≡ conflict_keys (schema_at history start) (graph_at history start []) changes → verdict history start preds keys ≡ None → deltas (schema history) (world history).graph changes ≡ deltas (schema_at history start) (graph_at history start []) changes
 
 -- what a sound offer's data parts put in fits the schema, whatever its other keys; so they keep a later graph lawful
 abbrev pub SoundFits : Type 0

@@ -1,3 +1,4 @@
+// Offers of changes of small graphs.
 ghost use Rattle.std.specs.Prelude.{◌≡◌, IfOk};
 ghost use Rattle.dg_graph.specs.Graphs.{IsLawful};
 ghost use Rattle.dg_edges.specs.Deltas.{AreFitting};
