@@ -5,11 +5,13 @@ mod change;
 mod graph;
 mod laws;
 mod runs;
+mod snapshot;
 mod subject;
 
 pub use change::{Change, Triple};
 pub use graph::Graph;
 pub use laws::{graphs, lists_of_graphs};
+pub use snapshot::Snapshot;
 pub use subject::{change_objects, is_of_subject, is_single};
 
 #[cfg(test)]

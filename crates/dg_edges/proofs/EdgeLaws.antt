@@ -1,0 +1,132 @@
+-- The parts and the keys of changes.
+use Rattle.std.proofs.Common.{◌≡◌, ℕ, Bool, true, false, cond, List, [], ◌∷◌, Option, Some, None, fold, map, refl, ap, subst, sym, ◌∙◌}
+use Rattle.std.proofs.lemmas.Bool.{both_ways, or_parts}
+use Rattle.std.specs.Ordering.{is_eq}
+use Rattle.dg_values.specs.Ascending.{Ascends, has}
+use Rattle.dg_values.specs.Order.{posting_cmp}
+use Rattle.dg_values.specs.declared.value.Posting.{Posting}
+use Rattle.dg_sets.proofs.Sets.{is_itself, at, has_more, ascends_more}
+use Rattle.dg_delta.specs.Ops.{changes_between}
+use Rattle.dg_edges.proofs.OpLaws.{between_ascends, none_between}
+use Rattle.dg_schema.specs.declared.definition.PredDef.{PredDef}
+use Rattle.dg_schema.specs.Definitions.{definition_of, is_named}
+use Rattle.dg_graph.specs.declared.change.Triple.{Triple}
+use Rattle.dg_graph.specs.declared.change.Change.{Change}
+use Rattle.dg_graph.specs.Graphs.{triple_cmp, is_of_subject, objects, fits, fits_by, after_changes, IsLawful}
+use Rattle.dg_graph.specs.Changes.{has_triple, changed, own_objects_after, objects_after}
+use Rattle.dg_graph.proofs.GraphLaws.{triple_order, same_subject}
+use Rattle.dg_graph.proofs.ObjectLaws.{objects_are, objects_ascend, objects_after_all}
+use Rattle.dg_keys.specs.declared.key.Key.{Key}
+use Rattle.dg_keys.specs.declared.key.Key.TheVariants as keys
+use Rattle.dg_keys.specs.Keys.{key_cmp, pred_of}
+use Rattle.dg_zero.specs.Listings.{listing, listing_by}
+use Rattle.dg_keys.specs.KeyOrder.{key_order}
+use Rattle.dg_edges.specs.Deltas.{gains, data_key, data_keys, IsPlainDefinition, IsPlain}
+use Rattle.dg_edges.specs.Laws.{DeltasAgree}
+use Rattle.dg_edges.proofs.PartLaws.{are_parts, ops_at_parts}
+
+-- ---- definitions
+
+pub plain_found : (schema : List PredDef) (p : List ℕ) (def : PredDef) → IsPlain schema → definition_of schema p ≡ Some def → IsPlainDefinition def
+plain_found [] p def l e = absurd (cc)
+plain_found (d ∷ schema) p def l e = by (is_named p d) e (λ k. plain_found schema p def l.1 k)
+  where
+    found : Some d ≡ Some def → d ≡ def
+    found e = cc
+
+    by : (v : Bool) → cond v (Some d) (definition_of schema p) ≡ Some def → (definition_of schema p ≡ Some def → IsPlainDefinition def) → IsPlainDefinition def
+    by true e rest = subst IsPlainDefinition (found e) l.0
+    by false e rest = rest e
+
+-- ---- lists of a lawful graph
+
+-- a subject's list has the graph's triples, whether its predicate is declared or not
+pub listed_by : (schema : List PredDef) (graph : List Triple) (p : List ℕ) (s : ℕ) (o : Posting) → IsLawful schema graph → has posting_cmp (listing schema graph (keys.Data p s)) o ≡ has_triple graph (record { s = s; p = p; o = o })
+listed_by schema graph p s o l = by (definition_of schema p) refl
+  where
+    none : (v : Bool) → has_triple graph (record { s = s; p = p; o = o }) ≡ v → definition_of schema p ≡ None → false ≡ v
+    none true h e =
+        let f = at triple_cmp triple_order (λ t. fits schema t ≡ true) graph (record { s = s; p = p; o = o }) l.fit h in
+        let g : fits schema (record { s = s; p = p; o = o }) ≡ false = ap (λ (d : Option PredDef). fits_by d (record { s = s; p = p; o = o })) e in
+        absurd (both_ways (fits schema (record { s = s; p = p; o = o })) g f)
+    none false h e = refl
+
+    by : (d : Option PredDef) → definition_of schema p ≡ d → has posting_cmp (listing_by d graph (keys.Data p s)) o ≡ has_triple graph (record { s = s; p = p; o = o })
+    by None e = none (has_triple graph (record { s = s; p = p; o = o })) refl e
+    by (Some def) e = objects_are graph p s o
+
+-- a key lists an ascending list, under a plain schema
+other_by : (d : Option PredDef) (graph : List Triple) (key : Key) → ((def : PredDef) → d ≡ Some def → IsPlainDefinition def) → ((p : List ℕ) (s : ℕ) → key ≡ keys.Data p s → ⊥) → listing_by d graph key ≡ []
+other_by None graph key plain other = refl
+other_by (Some def) graph (keys.Data p s) plain other = absurd (other p s refl)
+other_by (Some def) graph (keys.Index p t) plain other = let q = plain def refl in rw q.0 refl
+other_by (Some def) graph (keys.Reverse p o) plain other = let q = plain def refl in rw q.1 refl
+other_by (Some def) graph (keys.Count p n) plain other = let q = plain def refl in rw q.2 refl
+other_by (Some def) graph (keys.RCount p n) plain other = let q = plain def refl in rw q.1 refl
+
+pub listing_ascends : (schema : List PredDef) (graph : List Triple) (key : Key) → IsPlain schema → Ascends triple_cmp graph → Ascends posting_cmp (listing schema graph key)
+listing_ascends schema graph (keys.Data p s) plain a = by (definition_of schema p)
+  where
+    by : (d : Option PredDef) → Ascends posting_cmp (listing_by d graph (keys.Data p s))
+    by None = tt
+    by (Some def) = objects_ascend graph p s a
+listing_ascends schema graph (keys.Index p t) plain a = subst (Ascends posting_cmp) (sym (other_by (definition_of schema p) graph (keys.Index p t) (λ def e. plain_found schema p def plain e) (λ q s e. cc))) tt
+listing_ascends schema graph (keys.Reverse p t) plain a = subst (Ascends posting_cmp) (sym (other_by (definition_of schema p) graph (keys.Reverse p t) (λ def e. plain_found schema p def plain e) (λ q s e. cc))) tt
+listing_ascends schema graph (keys.Count p t) plain a = subst (Ascends posting_cmp) (sym (other_by (definition_of schema p) graph (keys.Count p t) (λ def e. plain_found schema p def plain e) (λ q s e. cc))) tt
+listing_ascends schema graph (keys.RCount p t) plain a = subst (Ascends posting_cmp) (sym (other_by (definition_of schema p) graph (keys.RCount p t) (λ def e. plain_found schema p def plain e) (λ q s e. cc))) tt
+
+-- ---- a key that no change has keeps its list
+
+no_change : (schema : List PredDef) (p : List ℕ) (s : ℕ) (os : List Posting) (cs : List Change) → has key_cmp (map data_key cs) (keys.Data p s) ≡ false → fold (objects_after schema p s) os cs ≡ os
+no_change schema p s os [] h = refl
+no_change schema p s os (c ∷ cs) h =
+    let both = or_parts (is_eq (key_cmp (data_key c) (keys.Data p s))) (has key_cmp (map data_key cs) (keys.Data p s)) h in
+    no_change schema p s (objects_after schema p s os c) cs both.1 ∙ by (is_of_subject p s (changed c)) refl both.0
+  where
+    by : (v : Bool) → is_of_subject p s (changed c) ≡ v → is_eq (key_cmp (data_key c) (keys.Data p s)) ≡ false → cond v (own_objects_after schema os c) os ≡ os
+    by true e f =
+        let b = same_subject p s (changed c) e in
+        let one = is_itself key_cmp key_order (keys.Data p s) in
+        let up : is_eq (key_cmp (data_key c) (keys.Data p s)) ≡ is_eq (key_cmp (keys.Data p s) (keys.Data p s)) = λ i. is_eq (key_cmp (keys.Data (b.0 i) (b.1 i)) (keys.Data p s)) in
+        absurd (both_ways (is_eq (key_cmp (data_key c) (keys.Data p s))) f (up ∙ one))
+    by false e f = refl
+
+-- the keys of changes, as they come
+pub keys_are : (cs : List Change) (key : Key) → has key_cmp (data_keys cs) key ≡ has key_cmp (map data_key cs) key
+keys_are cs key = has_more key_cmp key_order [] (map data_key cs) key
+
+pub other_same : (schema : List PredDef) (graph later : List Triple) (key : Key) → IsPlain schema → ((p : List ℕ) (s : ℕ) → key ≡ keys.Data p s → ⊥) → listing schema graph key ≡ listing schema later key
+other_same schema graph later key plain other =
+    other_by (definition_of schema (pred_of key)) graph key (λ def e. plain_found schema (pred_of key) def plain e) other
+    ∙ sym (other_by (definition_of schema (pred_of key)) later key (λ def e. plain_found schema (pred_of key) def plain e) other)
+
+data_same : (d : Option PredDef) (graph later : List Triple) (p : List ℕ) (s : ℕ) → objects graph p s ≡ objects later p s → listing_by d graph (keys.Data p s) ≡ listing_by d later (keys.Data p s)
+data_same None graph later p s e = refl
+data_same (Some def) graph later p s e = e
+
+pub keeps_list : (schema : List PredDef) (graph : List Triple) (cs : List Change) (key : Key) → IsPlain schema → Ascends triple_cmp graph → has key_cmp (data_keys cs) key ≡ false → listing schema graph key ≡ listing schema (after_changes schema graph cs) key
+keeps_list schema graph cs (keys.Data p s) plain a h =
+    data_same (definition_of schema p) graph (after_changes schema graph cs) p s (sym (objects_after_all schema graph cs p s a ∙ no_change schema p s (objects graph p s) cs (sym (keys_are cs (keys.Data p s)) ∙ h)))
+keeps_list schema graph cs (keys.Index p t) plain a h = other_same schema graph (after_changes schema graph cs) (keys.Index p t) plain (λ q s e. cc)
+keeps_list schema graph cs (keys.Reverse p t) plain a h = other_same schema graph (after_changes schema graph cs) (keys.Reverse p t) plain (λ q s e. cc)
+keeps_list schema graph cs (keys.Count p t) plain a h = other_same schema graph (after_changes schema graph cs) (keys.Count p t) plain (λ q s e. cc)
+keeps_list schema graph cs (keys.RCount p t) plain a h = other_same schema graph (after_changes schema graph cs) (keys.RCount p t) plain (λ q s e. cc)
+
+-- ---- the parts are exactly the gains and losses
+
+pub gains_none : (schema : List PredDef) (graph later : List Triple) (key : Key) → listing schema graph key ≡ listing schema later key → gains schema graph later key ≡ []
+gains_none schema graph later key e = (λ i. changes_between (e i) (listing schema later key)) ∙ none_between (listing schema later key)
+
+pub data_keys_ascend : (cs : List Change) → Ascends key_cmp (data_keys cs)
+data_keys_ascend cs = ascends_more key_cmp key_order [] (map data_key cs) tt
+
+pub deltas_agree : DeltasAgree
+deltas_agree schema graph cs plain fit l =
+    record {
+      parts_are = are_parts (gains schema graph (after_changes schema graph cs)) (data_keys cs) (data_keys_ascend cs) (λ key. between_ascends (listing schema graph key) (listing schema (after_changes schema graph cs) key) (listing_ascends schema graph key plain l.ascend));
+      exact = λ key. ops_at_parts (gains schema graph (after_changes schema graph cs)) (data_keys cs) key (data_keys_ascend cs) ∙ by key (has key_cmp (data_keys cs) key) refl;
+    }
+  where
+    by : (key : Key) (v : Bool) → has key_cmp (data_keys cs) key ≡ v → cond v (gains schema graph (after_changes schema graph cs) key) [] ≡ gains schema graph (after_changes schema graph cs) key
+    by key true e = refl
+    by key false e = sym (gains_none schema graph (after_changes schema graph cs) key (keeps_list schema graph cs key plain l.ascend e))

@@ -1,0 +1,10 @@
+pub mod OpLaws
+pub mod PartLaws
+pub mod AgreeLaws
+pub mod EdgeLaws
+pub mod OfferLaws
+pub mod PartsStay
+pub mod SoundParts
+pub mod CommitsSince
+pub mod BetweenLaws
+pub mod ListLaws

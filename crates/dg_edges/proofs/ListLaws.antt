@@ -1,0 +1,153 @@
+-- The objects of the subjects that are changed, before changes and after some.
+use Rattle.std.proofs.Common.{Result, Ok, Err, IfOk, ◌≡◌, ℕ, zero, suc, ◌+◌, ◌<◌, Bool, true, false, cond, List, [], ◌∷◌, ◌++◌, length, get_or, take, fold, map, refl, ap, subst, sym, ◌∙◌, arith, append_assoc}
+use Rattle.std.specs.Prelude.{OnOk}
+use Rattle.std.specs.List.{AllByRecursion}
+use Rattle.std.proofs.Math.ListN.{set}
+use Rattle.std.proofs.lemmas.List.{take_more}
+use Rattle.std.proofs.lemmas.List.Sums.{fold-append}
+use Rattle.std.proofs.lemmas.Bool.{both_ways, or_parts}
+use Rattle.std.specs.declared.cmp.Ordering.TheVariants.{Less}
+use Rattle.std.specs.Ordering.{is_eq}
+use Rattle.dg_values.specs.Ascending.{Ascends, has}
+use Rattle.dg_values.specs.Order.{posting_cmp}
+use Rattle.dg_values.proofs.OrderLaws.{posting_order}
+use Rattle.dg_sets.proofs.Sets.{is_itself, not_above, one_list}
+use Rattle.dg_delta.specs.declared.op.Op.{Op}
+use Rattle.dg_delta.specs.Ops.{changes_between}
+use Rattle.dg_schema.specs.declared.definition.PredDef.{PredDef}
+use Rattle.dg_graph.specs.declared.change.Triple.{Triple}
+use Rattle.dg_graph.specs.declared.change.Change.{Change}
+use Rattle.dg_graph.specs.Graphs.{triple_cmp, is_of_subject, objects, after_changes, IsLawful}
+use Rattle.dg_graph.specs.Changes.{changed, own_objects_after, objects_after}
+use Rattle.dg_graph.proofs.GraphLaws.{same_subject}
+use Rattle.dg_graph.proofs.ObjectLaws.{objects_are, objects_ascend, objects_after_all}
+use Rattle.dg_keys.specs.declared.key.Key.{Key}
+use Rattle.dg_keys.specs.declared.key.Key.TheVariants as keys
+use Rattle.dg_keys.specs.declared.record.Part.{Part}
+use Rattle.dg_keys.specs.Keys.{key_cmp}
+use Rattle.dg_keys.specs.KeyOrder.{key_order}
+use Rattle.dg_zero.specs.Listings.{listing}
+use Rattle.dg_edges.specs.Deltas.{and_part, parts_at, gains, data_key, IsPlain, AreFitting}
+use Rattle.dg_edges.specs.Lists.{Lists, objects_at, unchanged_at, changed_at, lists_after}
+use Rattle.dg_edges.proofs.EdgeLaws.{listed_by, other_same, gains_none, listing_ascends}
+use Rattle.dg_edges.proofs.OfferLaws.{lawful_goal}
+
+-- ---- what holds of results
+
+pub ok_with : {T E : Type 0} (r : Result T E) (P Q : T → Type 0) → ((v : T) → P v → Q v) → IfOk r P → IfOk r Q
+ok_with (Ok v) P Q f p = f v p
+ok_with (Err e) P Q f p = p
+
+pub on_ok_with : {T E : Type 0} (r : Result T E) (P Q : Type 0) → (P → Q) → OnOk r P → OnOk r Q
+on_ok_with (Ok v) P Q f p = f p
+on_ok_with (Err e) P Q f p = p
+
+-- ---- a change leaves the objects at other keys
+
+other_key : (schema : List PredDef) (c : Change) (k : Key) (l : Lists) → is_eq (key_cmp k (data_key c)) ≡ false → changed_at schema c k l ≡ l
+other_key schema c (keys.Data p s) l e = by (is_of_subject p s (changed c)) refl
+  where
+    by : (v : Bool) → is_of_subject p s (changed c) ≡ v → (let r : Lists = record { before = l.before; after = cond v (own_objects_after schema l.after c) l.after } in r) ≡ l
+    by true own =
+        let b = same_subject p s (changed c) own in
+        let one = is_itself key_cmp key_order (keys.Data p s) in
+        let up : is_eq (key_cmp (keys.Data p s) (data_key c)) ≡ is_eq (key_cmp (keys.Data p s) (keys.Data p s)) = λ i. is_eq (key_cmp (keys.Data p s) (keys.Data (b.0 i) (b.1 i))) in
+        absurd (both_ways (is_eq (key_cmp (keys.Data p s) (data_key c))) e (up ∙ one))
+    by false own = refl
+other_key schema c (keys.Index p t) l e = refl
+other_key schema c (keys.Reverse p o) l e = refl
+other_key schema c (keys.Count p n) l e = refl
+other_key schema c (keys.RCount p n) l e = refl
+
+pub other_keys : (schema : List PredDef) (c : Change) (f : Key → Lists) (ks : List Key) → has key_cmp ks (data_key c) ≡ false → map f ks ≡ map (λ k. changed_at schema c k (f k)) ks
+other_keys schema c f [] h = refl
+other_keys schema c f (k ∷ ks) h =
+    let both = or_parts (is_eq (key_cmp k (data_key c))) (has key_cmp ks (data_key c)) h in
+    λ i. sym (other_key schema c k (f k) both.0) i ∷ other_keys schema c f ks both.1 i
+
+pub all_at : {X : Type 0} (P : X → Type 0) (xs : List X) (place : ℕ) (d : X) → place < length xs → AllByRecursion P xs → P (get_or xs place d)
+all_at P [] place d lt a = absurd (omega arith)
+all_at P (x ∷ xs) zero d lt a = a.0
+all_at P (x ∷ xs) (suc place) d lt a = all_at P xs place d (omega arith) a.1
+
+-- the objects at the place of a change's key
+pub at_place : (schema : List PredDef) (c : Change) (f : Key → Lists) (ks : List Key) (place : ℕ) → Ascends key_cmp ks → place < length ks → get_or ks place (data_key c) ≡ data_key c → set (map f ks) place (changed_at schema c (data_key c) (f (data_key c))) ≡ map (λ k. changed_at schema c k (f k)) ks
+at_place schema c f [] place a lt is = absurd (omega arith)
+at_place schema c f (k ∷ ks) zero a lt is =
+    let out : has key_cmp ks (data_key c) ≡ false = subst (λ (l : Key). has key_cmp ks l ≡ false) is (not_above key_cmp key_order k ks a.0) in
+    λ i. changed_at schema c (sym is i) (f (sym is i)) ∷ other_keys schema c f ks out i
+at_place schema c f (k ∷ ks) (suc place) a lt is =
+    let low = subst (λ (l : Key). key_cmp k l ≡ Less) is (all_at (λ l. key_cmp k l ≡ Less) ks place (data_key c) (omega arith) a.0) in
+    λ i. sym (other_key schema c k (f k) (ap is_eq low)) i ∷ at_place schema c f ks place a.1 (omega arith) is i
+
+pub mapped_at : (f : Key → Lists) (ks : List Key) (place : ℕ) (k : Key) (l : Lists) → place < length ks → get_or ks place k ≡ k → get_or (map f ks) place l ≡ f k
+mapped_at f [] place k l lt is = absurd (omega arith)
+mapped_at f (m ∷ ks) zero k l lt is = ap f is
+mapped_at f (m ∷ ks) (suc place) k l lt is = mapped_at f ks place k l (omega arith) is
+
+-- ---- the objects after changes
+
+pub one_change_more : (schema : List PredDef) (graph : List Triple) (cs : List Change) (i : ℕ) (c : Change) (ks : List Key) → i < length cs → get_or cs i c ≡ c → map (λ k. changed_at schema c k (lists_after schema graph (take i cs) k)) ks ≡ map (lists_after schema graph (take (i + 1) cs)) ks
+one_change_more schema graph cs i c ks lt is =
+    let more : take (i + 1) cs ≡ take i cs ++ c ∷ [] = take_more cs i c lt ∙ λ j. take i cs ++ is j ∷ [] in
+    (λ j. map (λ k. sym (fold-append (λ l d. changed_at schema d k l) (unchanged_at graph k) (take i cs) (c ∷ [])) j) ks)
+    ∙ λ j. map (lists_after schema graph (sym more j)) ks
+
+after_from : (schema : List PredDef) (p : List ℕ) (s : ℕ) (cs : List Change) (l : Lists) → fold (λ l c. changed_at schema c (keys.Data p s) l) l cs ≡ record { before = l.before; after = fold (objects_after schema p s) l.after cs }
+after_from schema p s [] l = refl
+after_from schema p s (c ∷ cs) l = after_from schema p s cs (changed_at schema c (keys.Data p s) l)
+
+none_from : (schema : List PredDef) (k : Key) (cs : List Change) (l : Lists) → ((c : Change) (m : Lists) → changed_at schema c k m ≡ m) → fold (λ l c. changed_at schema c k l) l cs ≡ l
+none_from schema k [] l f = refl
+none_from schema k (c ∷ cs) l f = none_from schema k cs (changed_at schema c k l) f ∙ f c l
+
+-- a subject's list is its objects
+data_listing : (schema : List PredDef) (graph : List Triple) (p : List ℕ) (s : ℕ) → IsPlain schema → IsLawful schema graph → objects graph p s ≡ listing schema graph (keys.Data p s)
+data_listing schema graph p s plain l =
+    sym (one_list posting_cmp posting_order (listing schema graph (keys.Data p s)) (objects graph p s) (listing_ascends schema graph (keys.Data p s) plain l.ascend) (objects_ascend graph p s l.ascend) (λ o. listed_by schema graph p s o l ∙ sym (objects_are graph p s o)))
+
+-- other keys have none
+gains_other : (schema : List PredDef) (graph : List Triple) (cs : List Change) (k : Key) → IsPlain schema → ((c : Change) (m : Lists) → changed_at schema c k m ≡ m) → ((p : List ℕ) (s : ℕ) → k ≡ keys.Data p s → ⊥) → objects_at graph k ≡ [] → changes_between (lists_after schema graph cs k).before (lists_after schema graph cs k).after ≡ gains schema graph (after_changes schema graph cs) k
+gains_other schema graph cs k plain still other none =
+    let whole = none_from schema k cs (unchanged_at graph k) still in
+    (λ i. changes_between (whole i).before (whole i).after)
+    ∙ ((λ i. changes_between (none i) (none i))
+    ∙ sym (gains_none schema graph (after_changes schema graph cs) k (other_same schema graph (after_changes schema graph cs) k plain other)))
+
+-- what the lists gain and lose
+pub gains_are : (schema : List PredDef) (graph : List Triple) (cs : List Change) → IsPlain schema → AreFitting schema cs → IsLawful schema graph → (k : Key) → changes_between (lists_after schema graph cs k).before (lists_after schema graph cs k).after ≡ gains schema graph (after_changes schema graph cs) k
+gains_are schema graph cs plain fit l (keys.Data p s) =
+    let whole = after_from schema p s cs (unchanged_at graph (keys.Data p s)) in
+    (λ i. changes_between (whole i).before (whole i).after)
+    ∙ ((λ i. changes_between (objects graph p s) (sym (objects_after_all schema graph cs p s l.ascend) i))
+    ∙ λ i. changes_between (data_listing schema graph p s plain l i) (data_listing schema (after_changes schema graph cs) p s plain (lawful_goal schema graph cs fit l) i))
+gains_are schema graph cs plain fit l (keys.Index p t) = gains_other schema graph cs (keys.Index p t) plain (λ c m. refl) (λ q s e. cc) refl
+gains_are schema graph cs plain fit l (keys.Reverse p o) = gains_other schema graph cs (keys.Reverse p o) plain (λ c m. refl) (λ q s e. cc) refl
+gains_are schema graph cs plain fit l (keys.Count p n) = gains_other schema graph cs (keys.Count p n) plain (λ c m. refl) (λ q s e. cc) refl
+gains_are schema graph cs plain fit l (keys.RCount p n) = gains_other schema graph cs (keys.RCount p n) plain (λ c m. refl) (λ q s e. cc) refl
+
+-- the objects of a key ascend
+pub objects_at_ascend : (graph : List Triple) (k : Key) → Ascends triple_cmp graph → Ascends posting_cmp (objects_at graph k)
+objects_at_ascend graph (keys.Data p s) a = objects_ascend graph p s a
+objects_at_ascend graph (keys.Index p t) a = tt
+objects_at_ascend graph (keys.Reverse p o) a = tt
+objects_at_ascend graph (keys.Count p n) a = tt
+objects_at_ascend graph (keys.RCount p n) a = tt
+
+-- ---- one part more
+
+and_part_append : (k : Key) (os : List Op) (parts : List Part) → and_part k os parts ≡ and_part k os [] ++ parts
+and_part_append k [] parts = refl
+and_part_append k (op ∷ os) parts = refl
+
+parts_push : (f : Key → List Op) (ks : List Key) (k : Key) → parts_at f (ks ++ k ∷ []) ≡ parts_at f ks ++ and_part k (f k) []
+parts_push f [] k = refl
+parts_push f (l ∷ ks) k =
+    and_part_append l (f l) (parts_at f (ks ++ k ∷ []))
+    ∙ ((λ i. and_part l (f l) [] ++ parts_push f ks k i)
+    ∙ (sym (append_assoc (and_part l (f l) []) (parts_at f ks) (and_part k (f k) []))
+    ∙ λ i. sym (and_part_append l (f l) (parts_at f ks)) i ++ and_part k (f k) []))
+
+pub parts_more : (f : Key → List Op) (ks : List Key) (i : ℕ) (k : Key) (parts more : List Part) → i < length ks → get_or ks i k ≡ k → parts ≡ parts_at f (take i ks) → more ≡ parts ++ and_part k (f k) [] → more ≡ parts_at f (take (i + 1) ks)
+parts_more f ks i k parts more lt is so e =
+    e ∙ ((λ j. so j ++ and_part k (f k) []) ∙ (sym (parts_push f (take i ks) k) ∙ λ j. parts_at f (sym (take_more ks i k lt ∙ λ m. take i ks ++ is m ∷ []) j)))

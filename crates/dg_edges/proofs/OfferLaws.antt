@@ -1,0 +1,314 @@
+-- An offer of the parts and keys of changes is sound, and holds at a later graph.
+use Rattle.std.proofs.Common.{◌≡◌, ◌≢◌, ℕ, Bool, true, false, cond, not, List, [], ◌∷◌, ◌++◌, Option, Some, None, map, flat_map, refl, ap, subst, sym, ◌∙◌}
+use Rattle.std.specs.Prelude.{◌||◌}
+use Rattle.std.specs.List.{AllByRecursion}
+use Rattle.std.proofs.lemmas.List.{map-append}
+use Rattle.std.proofs.lemmas.Bool.{both_ways}
+use Rattle.std.specs.Ordering.{is_eq}
+use Rattle.dg_values.specs.Order.{text_cmp, posting_cmp}
+use Rattle.dg_values.specs.Ascending.{has, ascending}
+use Rattle.dg_values.specs.declared.kind.Tokenizer.{Tokenizer}
+use Rattle.dg_values.specs.declared.value.Posting.{Posting}
+use Rattle.dg_sets.proofs.MadeOrders.{text_order}
+use Rattle.dg_sets.proofs.Sets.{is_one, is_itself, at, from_each, has_more, ascends_more, has_joined, all_with}
+use Rattle.dg_delta.specs.declared.op.Op.{Op}
+use Rattle.dg_delta.specs.declared.op.Op.TheVariants as ops
+use Rattle.dg_delta.specs.Ops.{posting_of}
+use Rattle.dg_zero.proofs.Operations.{Agrees, between_agrees}
+use Rattle.dg_edges.proofs.OpLaws.{Differs, between_differs, between_covers}
+use Rattle.dg_schema.specs.declared.definition.PredDef.{PredDef}
+use Rattle.dg_schema.specs.Definitions.{definition_of, is_single, is_single_by}
+use Rattle.dg_graph.specs.declared.change.Triple.{Triple}
+use Rattle.dg_graph.specs.declared.change.Change.{Change}
+use Rattle.dg_graph.specs.declared.change.Change.TheVariants as changes
+use Rattle.dg_graph.specs.Graphs.{triple_cmp, fits, fits_by, after_change, after_changes, IsLawful}
+use Rattle.dg_graph.specs.Changes.{has_triple, there_after_all, changed, AllFit}
+use Rattle.dg_graph.proofs.GraphLaws.{triple_order, single_from, known_by_triples, changes_by_triple, changes_ascend, stays_lawful}
+use Rattle.dg_graph.proofs.ObjectLaws.{is_triple}
+use Rattle.dg_keys.specs.declared.key.Key.{Key}
+use Rattle.dg_keys.specs.declared.key.Key.TheVariants as keys
+use Rattle.dg_keys.specs.declared.conflict.ConflictKey.{ConflictKey}
+use Rattle.dg_keys.specs.declared.conflict.ConflictKey.TheVariants as conflicts
+use Rattle.dg_keys.specs.Keys.{key_cmp, pred_of}
+use Rattle.dg_zero.specs.Worlds.{change_of, changes_at, changes_of}
+use Rattle.dg_keys.specs.Conflicts.{conflict_cmp}
+use Rattle.dg_zero.specs.Listings.{listing, AreGainsAndLosses, triple_of, touched, keys_of_object, keys_of_token, tokens_of_object, keys_of_change, keys_of_changes, conflict_keys}
+use Rattle.dg_keys.specs.KeyOrder.{key_order, conflict_order}
+use Rattle.dg_edges.specs.Deltas.{parts_at, gains, data_key, data_keys, deltas, data_conflict, data_conflicts, preds_of, IsPlainDefinition, IsPlain, AreFitting}
+use Rattle.dg_edges.specs.Laws.{DeltasLead, KeysAre, OffersAreSound, ChangesDoAsParts, Done, IsKeyed, HasNone, after_done, OthersLeave, CommitsDoAsChanges}
+use Rattle.dg_edges.proofs.PartLaws.{all_parts, all_changes, changes_joined}
+use Rattle.dg_edges.proofs.AgreeLaws.{Leads, lead_there, all_apart}
+use Rattle.dg_edges.proofs.EdgeLaws.{plain_found, listed_by, keeps_list, keys_are, deltas_agree}
+
+-- ---- the parts as changes: each leads to the new graph, and none leaves its triple as it was
+
+-- the change speaks of a triple that differs
+pub record IsOfDifference (graph goal : List Triple) (change : Change) : Type 0 where
+  pub leads : Leads goal change
+  pub differs : has_triple graph (changed change) ≡ has_triple goal (changed change) → ⊥
+
+op_leads : (schema : List PredDef) (graph goal : List Triple) (p : List ℕ) (s : ℕ) (op : Op) → IsLawful schema graph → IsLawful schema goal → Agrees (listing schema goal (keys.Data p s)) op → Differs (listing schema graph (keys.Data p s)) (listing schema goal (keys.Data p s)) op → IsOfDifference graph goal (change_of p s op)
+op_leads schema graph goal p s (ops.Set o) l m a d = record {
+  leads = sym (listed_by schema goal p s o m) ∙ a;
+  differs = λ e. d (listed_by schema graph p s o l ∙ (e ∙ sym (listed_by schema goal p s o m)));
+}
+op_leads schema graph goal p s (ops.Del o) l m a d = record {
+  leads = sym (listed_by schema goal p s o m) ∙ a;
+  differs = λ e. d (listed_by schema graph p s o l ∙ (e ∙ sym (listed_by schema goal p s o m)));
+}
+
+ops_lead : (schema : List PredDef) (graph goal : List Triple) (p : List ℕ) (s : ℕ) (os : List Op) → IsLawful schema graph → IsLawful schema goal → AllByRecursion (Agrees (listing schema goal (keys.Data p s))) os → AllByRecursion (Differs (listing schema graph (keys.Data p s)) (listing schema goal (keys.Data p s))) os → AllByRecursion (IsOfDifference graph goal) (map (change_of p s) os)
+ops_lead schema graph goal p s [] l m a d = tt
+ops_lead schema graph goal p s (op ∷ os) l m a d = (op_leads schema graph goal p s op l m a.0 d.0, ops_lead schema graph goal p s os l m a.1 d.1)
+
+pub key_leads : (schema : List PredDef) (graph goal : List Triple) (key : Key) → IsLawful schema graph → IsLawful schema goal → AllByRecursion (IsOfDifference graph goal) (changes_at key (gains schema graph goal key))
+key_leads schema graph goal (keys.Data p s) l m = ops_lead schema graph goal p s (gains schema graph goal (keys.Data p s)) l m (between_agrees (listing schema graph (keys.Data p s)) (listing schema goal (keys.Data p s))) (between_differs (listing schema graph (keys.Data p s)) (listing schema goal (keys.Data p s)))
+key_leads schema graph goal (keys.Index p t) l m = tt
+key_leads schema graph goal (keys.Reverse p t) l m = tt
+key_leads schema graph goal (keys.Count p t) l m = tt
+key_leads schema graph goal (keys.RCount p t) l m = tt
+
+keys_lead : (schema : List PredDef) (graph goal : List Triple) (ks : List Key) → IsLawful schema graph → IsLawful schema goal → AllByRecursion (λ k. AllByRecursion (IsOfDifference graph goal) (changes_at k (gains schema graph goal k))) ks
+keys_lead schema graph goal [] l m = tt
+keys_lead schema graph goal (k ∷ ks) l m = (key_leads schema graph goal k l m, keys_lead schema graph goal ks l m)
+
+-- the graph after changes is lawful
+all_fit : (schema : List PredDef) (cs : List Change) → AreFitting schema cs → AllFit schema cs
+all_fit schema [] f = tt
+all_fit schema (changes.Set t ∷ cs) f = (f.0, all_fit schema cs f.1)
+all_fit schema (changes.Del t ∷ cs) f = (tt, all_fit schema cs f.1)
+
+pub lawful_goal : (schema : List PredDef) (graph : List Triple) (cs : List Change) → AreFitting schema cs → IsLawful schema graph → IsLawful schema (after_changes schema graph cs)
+lawful_goal schema graph cs f l = stays_lawful schema graph cs (all_fit schema cs f) l
+
+pub deltas_differ : (schema : List PredDef) (graph : List Triple) (cs : List Change) → AreFitting schema cs → IsLawful schema graph → AllByRecursion (IsOfDifference graph (after_changes schema graph cs)) (changes_of (deltas schema graph cs))
+deltas_differ schema graph cs f l =
+    all_changes (IsOfDifference graph (after_changes schema graph cs)) (gains schema graph (after_changes schema graph cs)) (data_keys cs) (keys_lead schema graph (after_changes schema graph cs) (data_keys cs) l (lawful_goal schema graph cs f l))
+
+-- ---- each triple that differs has a change
+
+op_covers : (p : List ℕ) (s : ℕ) (u : Triple) (op : Op) → p ≡ u.p → s ≡ u.s → is_eq (triple_cmp (changed (change_of p s op)) u) ≡ is_eq (posting_cmp (posting_of op) u.o)
+op_covers p s u (ops.Set o) e f = is_triple (record { s = s; p = p; o = o }) u e f
+op_covers p s u (ops.Del o) e f = is_triple (record { s = s; p = p; o = o }) u e f
+
+ops_cover : (p : List ℕ) (s : ℕ) (u : Triple) (os : List Op) → p ≡ u.p → s ≡ u.s → has triple_cmp (map changed (map (change_of p s) os)) u ≡ has posting_cmp (map posting_of os) u.o
+ops_cover p s u [] e f = refl
+ops_cover p s u (op ∷ os) e f = λ i. op_covers p s u op e f i || ops_cover p s u os e f i
+
+keys_cover : (f : Key → List Op) (ks : List Key) (u : Triple) → has posting_cmp (map posting_of (f (keys.Data u.p u.s))) u.o ≡ true → has key_cmp ks (keys.Data u.p u.s) ≡ true → has triple_cmp (map changed (changes_of (parts_at f ks))) u ≡ true
+keys_cover f [] u c h = absurd (cc)
+keys_cover f (k ∷ ks) u c h =
+    (ap (λ (cs : List Change). has triple_cmp (map changed cs) u) (changes_joined f k ks)
+    ∙ (ap (λ (ts : List Triple). has triple_cmp ts u) (map-append changed (changes_at k (f k)) (changes_of (parts_at f ks)))
+    ∙ has_joined triple_cmp triple_order (map changed (changes_at k (f k))) (map changed (changes_of (parts_at f ks))) u))
+    ∙ by (is_eq (key_cmp k (keys.Data u.p u.s))) refl h (λ m. keys_cover f ks u c m)
+  where
+    first : (b c : Bool) → b ≡ true → (b || c) ≡ true
+    first true c e = refl
+    first false c e = absurd (cc)
+
+    later : (b c : Bool) → c ≡ true → (b || c) ≡ true
+    later true c e = refl
+    later false c e = e
+
+    by : (v : Bool) → is_eq (key_cmp k (keys.Data u.p u.s)) ≡ v → (v || has key_cmp ks (keys.Data u.p u.s)) ≡ true → (has key_cmp ks (keys.Data u.p u.s) ≡ true → has triple_cmp (map changed (changes_of (parts_at f ks))) u ≡ true) → (has triple_cmp (map changed (changes_at k (f k))) u || has triple_cmp (map changed (changes_of (parts_at f ks))) u) ≡ true
+    by true e h rest =
+        let same : k ≡ keys.Data u.p u.s = is_one key_cmp key_order k (keys.Data u.p u.s) e in
+        first (has triple_cmp (map changed (changes_at k (f k))) u) (has triple_cmp (map changed (changes_of (parts_at f ks))) u)
+        (ap (λ (l : Key). has triple_cmp (map changed (changes_at l (f l))) u) same ∙ (ops_cover u.p u.s u (f (keys.Data u.p u.s)) refl refl ∙ c))
+    by false e h rest = later (has triple_cmp (map changed (changes_at k (f k))) u) (has triple_cmp (map changed (changes_of (parts_at f ks))) u) (rest h)
+
+deltas_cover : (schema : List PredDef) (graph : List Triple) (cs : List Change) → IsPlain schema → AreFitting schema cs → IsLawful schema graph → (u : Triple) → (has_triple graph u ≡ has_triple (after_changes schema graph cs) u → ⊥) → has triple_cmp (map changed (changes_of (deltas schema graph cs))) u ≡ true
+deltas_cover schema graph cs plain fit l u ne = by (has key_cmp (data_keys cs) (keys.Data u.p u.s)) refl
+  where
+    apart_lists : has posting_cmp (listing schema graph (keys.Data u.p u.s)) u.o ≡ has posting_cmp (listing schema (after_changes schema graph cs) (keys.Data u.p u.s)) u.o → ⊥
+    apart_lists e = ne (sym (listed_by schema graph u.p u.s u.o l) ∙ (e ∙ listed_by schema (after_changes schema graph cs) u.p u.s u.o (lawful_goal schema graph cs fit l)))
+
+    by : (v : Bool) → has key_cmp (data_keys cs) (keys.Data u.p u.s) ≡ v → has triple_cmp (map changed (changes_of (deltas schema graph cs))) u ≡ true
+    by true h = keys_cover (gains schema graph (after_changes schema graph cs)) (data_keys cs) u (between_covers (listing schema graph (keys.Data u.p u.s)) (listing schema (after_changes schema graph cs) (keys.Data u.p u.s)) u.o apart_lists) h
+    by false h = absurd (apart_lists (ap (λ (os : List Posting). has posting_cmp os u.o) (keeps_list schema graph cs (keys.Data u.p u.s) plain l.ascend h)))
+
+all_lead : (graph goal : List Triple) (ds : List Change) → AllByRecursion (IsOfDifference graph goal) ds → AllByRecursion (Leads goal) ds
+all_lead graph goal ds a = all_with (IsOfDifference graph goal) (Leads goal) ds (λ d i. i.leads) a
+
+pub deltas_lead : DeltasLead
+deltas_lead schema graph cs plain fit l =
+    let m = lawful_goal schema graph cs fit l in
+    lead_there schema graph (after_changes schema graph cs) (changes_of (deltas schema graph cs)) l.ascend m.ascend (single_from schema (after_changes schema graph cs) m.single)
+    (all_lead graph (after_changes schema graph cs) (changes_of (deltas schema graph cs)) (deltas_differ schema graph cs fit l))
+    (λ u ne. deltas_cover schema graph cs plain fit l u ne)
+
+-- ---- keys
+
+no_tokens : (def : PredDef) (t : Triple) (os : List Posting) → def.tokens ≡ [] → flat_map (keys_of_object def t) os ≡ []
+no_tokens def t [] e = refl
+no_tokens def t (o ∷ os) e =
+    let none : keys_of_object def t o ≡ [] = ap (λ (ts : List Tokenizer). flat_map (keys_of_token def t) (flat_map (λ tokenizer. tokens_of_object tokenizer o) ts)) e in
+    λ i. none i ++ no_tokens def t os e i
+
+plain_key : (def : PredDef) (graph : List Triple) (c : Change) → IsPlainDefinition def → keys_of_change (Some def) graph c ≡ conflicts.Data (changed c).p (changed c).s (cond (not def.list) None (Some (changed c).o)) ∷ []
+plain_key def graph (changes.Set t) q = rw (no_tokens def t (touched def graph (changes.Set t)) q.0, q.2, q.1) (by def.list)
+  where
+    by : (v : Bool) → conflicts.Data t.p t.s (cond v (Some t.o) None) ∷ [] ≡ conflicts.Data t.p t.s (cond (not v) None (Some t.o)) ∷ []
+    by true = refl
+    by false = refl
+plain_key def graph (changes.Del t) q = rw (no_tokens def t (touched def graph (changes.Del t)) q.0, q.2, q.1) (by def.list)
+  where
+    by : (v : Bool) → conflicts.Data t.p t.s (cond v (Some t.o) None) ∷ [] ≡ conflicts.Data t.p t.s (cond (not v) None (Some t.o)) ∷ []
+    by true = refl
+    by false = refl
+
+key_by : (schema : List PredDef) (graph : List Triple) (c : Change) → IsPlain schema → fits schema (changed c) ≡ true → keys_of_change (definition_of schema (changed c).p) graph c ≡ data_conflict schema (changed c) ∷ []
+key_by schema graph c plain fit = by (definition_of schema (changed c).p) refl
+  where
+    by : (d : Option PredDef) → definition_of schema (changed c).p ≡ d → keys_of_change d graph c ≡ data_conflict schema (changed c) ∷ []
+    by None e =
+        let g : fits schema (changed c) ≡ false = ap (λ (d : Option PredDef). fits_by d (changed c)) e in
+        absurd (both_ways (fits schema (changed c)) g fit)
+    by (Some def) e =
+        let one : not def.list ≡ is_single schema (changed c).p = sym (ap is_single_by e) in
+        plain_key def graph c (plain_found schema (changed c).p def plain e) ∙ λ i. conflicts.Data (changed c).p (changed c).s (cond (one i) None (Some (changed c).o)) ∷ []
+
+same_triple : (c : Change) → triple_of c ≡ changed c
+same_triple (changes.Set t) = refl
+same_triple (changes.Del t) = refl
+
+pub keys_in_turn : (schema : List PredDef) (graph : List Triple) (cs : List Change) → IsPlain schema → AreFitting schema cs → keys_of_changes schema graph cs ≡ data_conflicts schema cs
+keys_in_turn schema graph [] plain fit = refl
+keys_in_turn schema graph (c ∷ cs) plain fit =
+    let one : keys_of_change (definition_of schema (triple_of c).p) graph c ≡ data_conflict schema (changed c) ∷ [] = ap (λ (t : Triple). keys_of_change (definition_of schema t.p) graph c) (same_triple c) ∙ key_by schema graph c plain fit.0 in
+    let rest = keys_in_turn schema (after_change schema graph c) cs plain fit.1 in
+    λ i. one i ++ rest i
+
+pub keys_stay : KeysAre
+keys_stay schema graph cs plain fit = ap (ascending conflict_cmp) (keys_in_turn schema graph cs plain fit)
+
+-- ---- soundness
+
+-- a change of a triple that differs fits
+pub differing_fits : (schema : List PredDef) (graph goal : List Triple) (t : Triple) → IsLawful schema graph → IsLawful schema goal → (has_triple graph t ≡ has_triple goal t → ⊥) → fits schema t ≡ true
+differing_fits schema graph goal t l m ne = by (has_triple graph t) (has_triple goal t) refl refl
+  where
+    by : (a b : Bool) → has_triple graph t ≡ a → has_triple goal t ≡ b → fits schema t ≡ true
+    by true b e f = at triple_cmp triple_order (λ u. fits schema u ≡ true) graph t l.fit e
+    by false true e f = at triple_cmp triple_order (λ u. fits schema u ≡ true) goal t m.fit f
+    by false false e f = absurd (ne (e ∙ sym f))
+
+pub deltas_fit : (schema : List PredDef) (graph : List Triple) (cs : List Change) → AreFitting schema cs → IsLawful schema graph → AreFitting schema (changes_of (deltas schema graph cs))
+deltas_fit schema graph cs fit l =
+    all_with (IsOfDifference graph (after_changes schema graph cs)) (λ d. fits schema (changed d) ≡ true) (changes_of (deltas schema graph cs)) (λ d i. differing_fits schema graph (after_changes schema graph cs) (changed d) l (lawful_goal schema graph cs fit l) i.differs) (deltas_differ schema graph cs fit l)
+
+-- and its key is among those of the changes
+differing_keyed : (schema : List PredDef) (graph : List Triple) (cs : List Change) (t : Triple) → (has_triple graph t ≡ has_triple (after_changes schema graph cs) t → ⊥) → has conflict_cmp (data_conflicts schema cs) (data_conflict schema t) ≡ true
+differing_keyed schema graph cs t ne = by (has conflict_cmp (data_conflicts schema cs) (data_conflict schema t)) refl
+  where
+    by : (v : Bool) → has conflict_cmp (data_conflicts schema cs) (data_conflict schema t) ≡ v → v ≡ true
+    by true h = refl
+    by false h = absurd (ne (sym (changes_by_triple schema graph cs t ∙ all_apart schema t (has_triple graph t) cs h)))
+
+pub deltas_keyed : (schema : List PredDef) (graph : List Triple) (cs : List Change) → AreFitting schema cs → IsLawful schema graph → AllByRecursion (λ d. has conflict_cmp (data_conflicts schema cs) (data_conflict schema (changed d)) ≡ true) (changes_of (deltas schema graph cs))
+deltas_keyed schema graph cs fit l =
+    all_with (IsOfDifference graph (after_changes schema graph cs)) (λ d. has conflict_cmp (data_conflicts schema cs) (data_conflict schema (changed d)) ≡ true) (changes_of (deltas schema graph cs)) (λ d i. differing_keyed schema graph cs (changed d) i.differs) (deltas_differ schema graph cs fit l)
+
+-- the same of the keys themselves
+keyed : (schema : List PredDef) (P : ConflictKey → Type 0) (ds : List Change) → AllByRecursion (λ d. P (data_conflict schema (changed d))) ds → AllByRecursion P (data_conflicts schema ds)
+keyed schema P [] a = tt
+keyed schema P (d ∷ ds) a = (a.0, keyed schema P ds a.1)
+
+named : (schema : List PredDef) (graph : List Triple) (cs ds : List Change) → AllByRecursion (λ d. has conflict_cmp (data_conflicts schema cs) (data_conflict schema (changed d)) ≡ true) ds → AllByRecursion (λ key. has conflict_cmp (ascending conflict_cmp (data_conflicts schema cs)) key ≡ true) (ascending conflict_cmp (data_conflicts schema ds))
+named schema graph cs ds a =
+    from_each conflict_cmp conflict_order (λ key. has conflict_cmp (ascending conflict_cmp (data_conflicts schema cs)) key ≡ true) (ascending conflict_cmp (data_conflicts schema ds))
+    (λ key h. has_more conflict_cmp conflict_order [] (data_conflicts schema cs) key ∙ at conflict_cmp conflict_order (λ k. has conflict_cmp (data_conflicts schema cs) k ≡ true) (data_conflicts schema ds) key (keyed schema (λ k. has conflict_cmp (data_conflicts schema cs) k ≡ true) ds a) (sym (has_more conflict_cmp conflict_order [] (data_conflicts schema ds) key) ∙ h))
+
+-- predicates
+pred_named : (cs : List Change) (key : Key) → has key_cmp (map data_key cs) key ≡ true → has text_cmp (map (λ c. (changed c).p) cs) (pred_of key) ≡ true
+pred_named [] key h = absurd (cc)
+pred_named (c ∷ cs) key h = by (is_eq (key_cmp (data_key c) key)) refl h (λ k. pred_named cs key k)
+  where
+    first : (b c : Bool) → b ≡ true → (b || c) ≡ true
+    first true c e = refl
+    first false c e = absurd (cc)
+
+    later : (b c : Bool) → c ≡ true → (b || c) ≡ true
+    later true c e = refl
+    later false c e = e
+
+    by : (v : Bool) → is_eq (key_cmp (data_key c) key) ≡ v → (v || has key_cmp (map data_key cs) key) ≡ true → (has key_cmp (map data_key cs) key ≡ true → has text_cmp (map (λ d. (changed d).p) cs) (pred_of key) ≡ true) → (is_eq (text_cmp (changed c).p (pred_of key)) || has text_cmp (map (λ d. (changed d).p) cs) (pred_of key)) ≡ true
+    by true e h rest =
+        let same = ap pred_of (is_one key_cmp key_order (data_key c) key e) in
+        first (is_eq (text_cmp (changed c).p (pred_of key))) (has text_cmp (map (λ d. (changed d).p) cs) (pred_of key)) (subst (λ (p : List ℕ). is_eq (text_cmp (changed c).p p) ≡ true) same (is_itself text_cmp text_order (changed c).p))
+    by false e h rest = later (is_eq (text_cmp (changed c).p (pred_of key))) (has text_cmp (map (λ d. (changed d).p) cs) (pred_of key)) (rest h)
+
+some_preds : (cs : List Change) → cs ≢ [] → preds_of cs ≢ []
+some_preds [] n e = n refl
+some_preds (c ∷ cs) n e =
+    let h = has_more text_cmp text_order [] (map (λ d. (changed d).p) (c ∷ cs)) (changed c).p in
+    let one = is_itself text_cmp text_order (changed c).p in
+    let none : has text_cmp (preds_of (c ∷ cs)) (changed c).p ≡ false = ap (λ (ps : List (List ℕ)). has text_cmp ps (changed c).p) e in
+    clash (is_eq (text_cmp (changed c).p (changed c).p)) (has text_cmp (map (λ d. (changed d).p) cs) (changed c).p) one (sym h ∙ none)
+  where
+    clash : (a b : Bool) → a ≡ true → (a || b) ≡ false → ⊥
+    clash true b e f = cc
+    clash false b e f = cc
+
+pub offers_are_sound : OffersAreSound
+offers_are_sound schema graph cs some plain fit l =
+    let m = lawful_goal schema graph cs fit l in
+    let lead = deltas_lead schema graph cs plain fit l in
+    let mine = keys_stay schema graph cs plain fit in
+    let its = keys_stay schema graph (changes_of (deltas schema graph cs)) plain (deltas_fit schema graph cs fit l) in
+    record {
+      some = some_preds cs some;
+      lawful = subst (λ (g : List Triple). IsLawful schema g) (sym lead) m;
+      parts_are = subst (λ (g : List Triple). AreGainsAndLosses schema graph schema g (deltas schema graph cs)) (sym lead) (deltas_agree schema graph cs plain fit l);
+      ascend = ascends_more conflict_cmp conflict_order [] (keys_of_changes schema graph cs) tt;
+      keys_named = subst (λ (ks : List ConflictKey). AllByRecursion (λ key. has conflict_cmp ks key ≡ true) (conflict_keys schema graph (changes_of (deltas schema graph cs)))) (sym mine) (subst (λ (ks : List ConflictKey). AllByRecursion (λ key. has conflict_cmp (ascending conflict_cmp (data_conflicts schema cs)) key ≡ true) ks) (sym its) (named schema graph cs (changes_of (deltas schema graph cs)) (deltas_keyed schema graph cs fit l)));
+      preds_named = all_parts (λ part. has text_cmp (preds_of cs) (pred_of part.key) ≡ true) (gains schema graph (after_changes schema graph cs)) (data_keys cs) (λ key op os h e. has_more text_cmp text_order [] (map (λ c. (changed c).p) cs) (pred_of key) ∙ pred_named cs key (sym (keys_are cs key) ∙ h));
+    }
+
+-- ---- at a later graph
+
+unkeyed : (schema : List PredDef) (ks : List ConflictKey) (key : ConflictKey) (ds : List Change) → has conflict_cmp ks key ≡ false → AllByRecursion (λ d. has conflict_cmp ks (data_conflict schema (changed d)) ≡ true) ds → has conflict_cmp (data_conflicts schema ds) key ≡ false
+unkeyed schema ks key ds h a = by (has conflict_cmp (data_conflicts schema ds) key) refl
+  where
+    by : (v : Bool) → has conflict_cmp (data_conflicts schema ds) key ≡ v → v ≡ false
+    by true e = absurd (both_ways (has conflict_cmp ks key) h (at conflict_cmp conflict_order (λ k. has conflict_cmp ks k ≡ true) (data_conflicts schema ds) key (keyed schema (λ k. has conflict_cmp ks k ≡ true) ds a) e))
+    by false e = refl
+
+pub changes_do_as_parts : ChangesDoAsParts
+changes_do_as_parts schema graph later cs plain fit l m agree =
+    known_by_triples (after_changes schema later cs) (after_changes schema later (changes_of (deltas schema graph cs)))
+    (changes_ascend schema later cs m.ascend) (changes_ascend schema later (changes_of (deltas schema graph cs)) m.ascend)
+    (λ u. changes_by_triple schema later cs u ∙ (by u (has conflict_cmp (data_conflicts schema cs) (data_conflict schema u)) refl ∙ sym (changes_by_triple schema later (changes_of (deltas schema graph cs)) u)))
+  where
+    by : (u : Triple) (v : Bool) → has conflict_cmp (data_conflicts schema cs) (data_conflict schema u) ≡ v → there_after_all schema u (has_triple later u) cs ≡ there_after_all schema u (has_triple later u) (changes_of (deltas schema graph cs))
+    by u true h =
+        let same = agree u h in
+        let at_start : there_after_all schema u (has_triple graph u) cs ≡ there_after_all schema u (has_triple graph u) (changes_of (deltas schema graph cs)) =
+        sym (changes_by_triple schema graph cs u) ∙ (ap (λ (g : List Triple). has_triple g u) (sym (deltas_lead schema graph cs plain fit l)) ∙ changes_by_triple schema graph (changes_of (deltas schema graph cs)) u) in
+        subst (λ (b : Bool). there_after_all schema u b cs ≡ there_after_all schema u b (changes_of (deltas schema graph cs))) same at_start
+    by u false h = all_apart schema u (has_triple later u) cs h ∙ sym (all_apart schema u (has_triple later u) (changes_of (deltas schema graph cs)) (unkeyed schema (data_conflicts schema cs) (data_conflict schema u) (changes_of (deltas schema graph cs)) h (deltas_keyed schema graph cs fit l)))
+
+-- ---- what others commit
+
+-- no key of theirs is a triple's
+clear_of : (schema : List PredDef) (u : Triple) (cs : List Change) (d : Done) → has conflict_cmp (data_conflicts schema cs) (data_conflict schema u) ≡ true → IsKeyed schema d → HasNone schema cs d → has conflict_cmp (data_conflicts schema d.changes) (data_conflict schema u) ≡ false
+clear_of schema u cs d h k none = by (has conflict_cmp (data_conflicts schema d.changes) (data_conflict schema u)) refl
+  where
+    by : (v : Bool) → has conflict_cmp (data_conflicts schema d.changes) (data_conflict schema u) ≡ v → v ≡ false
+    by true e = absurd (both_ways (has conflict_cmp d.keys (data_conflict schema u)) (at conflict_cmp conflict_order (λ key. has conflict_cmp d.keys key ≡ false) (data_conflicts schema cs) (data_conflict schema u) none h) (at conflict_cmp conflict_order (λ key. has conflict_cmp d.keys key ≡ true) (data_conflicts schema d.changes) (data_conflict schema u) k.named e))
+    by false e = refl
+
+pub others_leave : OthersLeave
+others_leave schema graph cs [] k none u h = refl
+others_leave schema graph cs (d ∷ ds) k none u h =
+    sym (changes_by_triple schema graph d.changes u ∙ all_apart schema u (has_triple graph u) d.changes (clear_of schema u cs d h k.0 none.0))
+    ∙ others_leave schema (after_changes schema graph d.changes) cs ds k.1 none.1 u h
+
+pub lawful_done : (schema : List PredDef) (graph : List Triple) (ds : List Done) → AllByRecursion (IsKeyed schema) ds → IsLawful schema graph → IsLawful schema (after_done schema graph ds)
+lawful_done schema graph [] k l = l
+lawful_done schema graph (d ∷ ds) k l = lawful_done schema (after_changes schema graph d.changes) ds k.1 (lawful_goal schema graph d.changes k.0.fitting l)
+
+pub commits_do_as_changes : CommitsDoAsChanges
+commits_do_as_changes schema graph cs others plain fit l k none =
+    changes_do_as_parts schema graph (after_done schema graph others) cs plain fit l (lawful_done schema graph others k l) (others_leave schema graph cs others k none)

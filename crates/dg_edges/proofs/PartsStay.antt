@@ -1,0 +1,102 @@
+-- On a later graph that agrees at the keys of changes, lists gain and lose by the changes what they did.
+use Rattle.std.proofs.Common.{◌≡◌, ℕ, Bool, true, false, not, List, fold, map, refl, subst, sym, ◌∙◌}
+use Rattle.std.specs.Prelude.{◌&&◌}
+use Rattle.dg_values.specs.Ascending.{Ascends, has, with_one}
+use Rattle.dg_values.specs.Order.{posting_cmp}
+use Rattle.dg_values.specs.declared.value.Posting.{Posting}
+use Rattle.dg_values.proofs.OrderLaws.{posting_order}
+use Rattle.dg_sets.proofs.Sets.{one_list, has_passed, ascends_passed}
+use Rattle.dg_delta.specs.declared.op.Op.TheVariants.{Set, Del}
+use Rattle.dg_delta.specs.Ops.{op_cmp, missing, changes_between}
+use Rattle.dg_schema.specs.declared.definition.PredDef.{PredDef}
+use Rattle.dg_graph.specs.declared.change.Triple.{Triple}
+use Rattle.dg_graph.specs.declared.change.Change.{Change}
+use Rattle.dg_graph.specs.Graphs.{after_changes, IsLawful}
+use Rattle.dg_graph.specs.Changes.{has_triple, there_after_all}
+use Rattle.dg_graph.proofs.GraphLaws.{changes_by_triple}
+use Rattle.dg_keys.specs.declared.key.Key.{Key}
+use Rattle.dg_keys.specs.declared.key.Key.TheVariants as keys
+use Rattle.dg_keys.specs.Conflicts.{conflict_cmp}
+use Rattle.dg_zero.specs.Listings.{listing}
+use Rattle.dg_edges.specs.Deltas.{parts_at, gains, data_keys, data_conflict, data_conflicts, IsPlain, AreFitting}
+use Rattle.dg_edges.specs.Laws.{AgreeAt, PartsStay}
+use Rattle.dg_edges.proofs.AgreeLaws.{all_apart}
+use Rattle.dg_edges.proofs.EdgeLaws.{listed_by, listing_ascends, other_same, gains_none}
+use Rattle.dg_edges.proofs.OfferLaws.{lawful_goal}
+
+-- ---- lists that differ alike
+
+-- what one list has and another lacks
+lacked : (have want : List Posting) (o : Posting) → has posting_cmp (missing have want) o ≡ (not (has posting_cmp have o) && has posting_cmp want o)
+lacked have want o = has_passed posting_cmp posting_order (λ w. not (has posting_cmp have w)) want o
+
+same_missing : (have want have' want' : List Posting) → Ascends posting_cmp want → Ascends posting_cmp want' → ((o : Posting) → (not (has posting_cmp have o) && has posting_cmp want o) ≡ (not (has posting_cmp have' o) && has posting_cmp want' o)) → missing have want ≡ missing have' want'
+same_missing have want have' want' a b f =
+    one_list posting_cmp posting_order (missing have want) (missing have' want') (ascends_passed posting_cmp posting_order (λ w. not (has posting_cmp have w)) want a) (ascends_passed posting_cmp posting_order (λ w. not (has posting_cmp have' w)) want' b)
+    (λ o. lacked have want o ∙ (f o ∙ sym (lacked have' want' o)))
+
+-- a posting is gained or lost alike, where both have it alike before and after, or where neither changes it
+pub record DifferAlike (old new old' new' : Bool) : Type 0 where
+  pub lost : (not new && old) ≡ (not new' && old')
+  pub gained : (not old && new) ≡ (not old' && new')
+
+alike : (old new : Bool) → DifferAlike old new old new
+alike old new = record { lost = refl; gained = refl }
+
+unchanged : (old later : Bool) → DifferAlike old old later later
+unchanged old later = record { lost = none old ∙ sym (none later); gained = none old ∙ sym (none later) }
+  where
+    none : (b : Bool) → (not b && b) ≡ false
+    none true = refl
+    none false = refl
+
+same_changes : (old new old' new' : List Posting) → Ascends posting_cmp old → Ascends posting_cmp new → Ascends posting_cmp old' → Ascends posting_cmp new' → ((o : Posting) → DifferAlike (has posting_cmp old o) (has posting_cmp new o) (has posting_cmp old' o) (has posting_cmp new' o)) → changes_between old new ≡ changes_between old' new'
+same_changes old new old' new' a b c d f =
+    let lost = same_missing new old new' old' a c (λ o. (f o).lost) in
+    let gained = same_missing old new old' new' b d (λ o. (f o).gained) in
+    λ i. fold (with_one op_cmp) (map Del (lost i)) (map Set (gained i))
+
+-- ---- graphs that agree at the keys
+
+-- each triple
+triple_alike : (schema : List PredDef) (graph later : List Triple) (cs : List Change) (u : Triple) → AgreeAt schema cs graph later → DifferAlike (has_triple graph u) (has_triple (after_changes schema graph cs) u) (has_triple later u) (has_triple (after_changes schema later cs) u)
+triple_alike schema graph later cs u agree = by (has conflict_cmp (data_conflicts schema cs) (data_conflict schema u)) refl
+  where
+    by : (v : Bool) → has conflict_cmp (data_conflicts schema cs) (data_conflict schema u) ≡ v → DifferAlike (has_triple graph u) (has_triple (after_changes schema graph cs) u) (has_triple later u) (has_triple (after_changes schema later cs) u)
+    by true h =
+        let same = agree u h in
+        let then : has_triple (after_changes schema graph cs) u ≡ has_triple (after_changes schema later cs) u = changes_by_triple schema graph cs u ∙ ((λ i. there_after_all schema u (same i) cs) ∙ sym (changes_by_triple schema later cs u)) in
+        subst (λ (b : Bool). DifferAlike (has_triple graph u) (has_triple (after_changes schema graph cs) u) b (has_triple (after_changes schema later cs) u)) same
+        (subst (λ (b : Bool). DifferAlike (has_triple graph u) (has_triple (after_changes schema graph cs) u) (has_triple graph u) b) then (alike (has_triple graph u) (has_triple (after_changes schema graph cs) u)))
+    by false h =
+        let one : has_triple graph u ≡ has_triple (after_changes schema graph cs) u = sym (changes_by_triple schema graph cs u ∙ all_apart schema u (has_triple graph u) cs h) in
+        let two : has_triple later u ≡ has_triple (after_changes schema later cs) u = sym (changes_by_triple schema later cs u ∙ all_apart schema u (has_triple later u) cs h) in
+        subst (λ (b : Bool). DifferAlike (has_triple graph u) b (has_triple later u) (has_triple (after_changes schema later cs) u)) one
+        (subst (λ (b : Bool). DifferAlike (has_triple graph u) (has_triple graph u) (has_triple later u) b) two (unchanged (has_triple graph u) (has_triple later u)))
+
+-- other keys list nothing
+no_gains : (schema : List PredDef) (graph later : List Triple) (cs : List Change) (k : Key) → IsPlain schema → ((p : List ℕ) (s : ℕ) → k ≡ keys.Data p s → ⊥) → gains schema graph (after_changes schema graph cs) k ≡ gains schema later (after_changes schema later cs) k
+no_gains schema graph later cs k plain other =
+    gains_none schema graph (after_changes schema graph cs) k (other_same schema graph (after_changes schema graph cs) k plain other)
+    ∙ sym (gains_none schema later (after_changes schema later cs) k (other_same schema later (after_changes schema later cs) k plain other))
+
+-- each key
+gains_stay : (schema : List PredDef) (graph later : List Triple) (cs : List Change) → IsPlain schema → AreFitting schema cs → IsLawful schema graph → IsLawful schema later → AgreeAt schema cs graph later → (k : Key) → gains schema graph (after_changes schema graph cs) k ≡ gains schema later (after_changes schema later cs) k
+gains_stay schema graph later cs plain fit l m agree (keys.Data p s) =
+    let then = lawful_goal schema graph cs fit l in
+    let now = lawful_goal schema later cs fit m in
+    same_changes (listing schema graph (keys.Data p s)) (listing schema (after_changes schema graph cs) (keys.Data p s)) (listing schema later (keys.Data p s)) (listing schema (after_changes schema later cs) (keys.Data p s))
+    (listing_ascends schema graph (keys.Data p s) plain l.ascend) (listing_ascends schema (after_changes schema graph cs) (keys.Data p s) plain then.ascend) (listing_ascends schema later (keys.Data p s) plain m.ascend) (listing_ascends schema (after_changes schema later cs) (keys.Data p s) plain now.ascend)
+    (λ o.
+    let u : Triple = record { s = s; p = p; o = o } in
+    subst (λ (b : Bool). DifferAlike b (has posting_cmp (listing schema (after_changes schema graph cs) (keys.Data p s)) o) (has posting_cmp (listing schema later (keys.Data p s)) o) (has posting_cmp (listing schema (after_changes schema later cs) (keys.Data p s)) o)) (sym (listed_by schema graph p s o l))
+    (subst (λ (b : Bool). DifferAlike (has_triple graph u) b (has posting_cmp (listing schema later (keys.Data p s)) o) (has posting_cmp (listing schema (after_changes schema later cs) (keys.Data p s)) o)) (sym (listed_by schema (after_changes schema graph cs) p s o then))
+    (subst (λ (b : Bool). DifferAlike (has_triple graph u) (has_triple (after_changes schema graph cs) u) b (has posting_cmp (listing schema (after_changes schema later cs) (keys.Data p s)) o)) (sym (listed_by schema later p s o m))
+    (subst (λ (b : Bool). DifferAlike (has_triple graph u) (has_triple (after_changes schema graph cs) u) (has_triple later u) b) (sym (listed_by schema (after_changes schema later cs) p s o now)) (triple_alike schema graph later cs u agree)))))
+gains_stay schema graph later cs plain fit l m agree (keys.Index p t) = no_gains schema graph later cs (keys.Index p t) plain (λ q s e. cc)
+gains_stay schema graph later cs plain fit l m agree (keys.Reverse p o) = no_gains schema graph later cs (keys.Reverse p o) plain (λ q s e. cc)
+gains_stay schema graph later cs plain fit l m agree (keys.Count p n) = no_gains schema graph later cs (keys.Count p n) plain (λ q s e. cc)
+gains_stay schema graph later cs plain fit l m agree (keys.RCount p n) = no_gains schema graph later cs (keys.RCount p n) plain (λ q s e. cc)
+
+pub parts_stay : PartsStay
+parts_stay schema graph later cs plain fit l m agree = λ i. parts_at (λ k. sym (gains_stay schema graph later cs plain fit l m agree k) i) (data_keys cs)

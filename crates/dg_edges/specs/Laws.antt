@@ -1,0 +1,87 @@
+-- What holds of the parts and keys of changes.
+use Rattle.std.specs.Prelude.{◌≡◌, ◌≢◌, ℕ, true, false, List, [], None, fold}
+use Rattle.std.specs.List.{AllByRecursion}
+use Rattle.dg_values.specs.Ascending.{ascending, has}
+use Rattle.dg_schema.specs.declared.definition.PredDef.{PredDef}
+use Rattle.dg_graph.specs.declared.change.Triple.{Triple}
+use Rattle.dg_graph.specs.declared.change.Change.{Change}
+use Rattle.dg_graph.specs.Graphs.{after_changes, IsLawful}
+use Rattle.dg_graph.specs.Changes.{has_triple, AllFit}
+use Rattle.dg_keys.specs.declared.conflict.ConflictKey.{ConflictKey}
+use Rattle.dg_keys.specs.declared.record.Part.{Part}
+use Rattle.dg_zero.specs.Worlds.{changes_of, world, schema, schema_at, graph_at}
+use Rattle.dg_keys.specs.Conflicts.{conflict_cmp}
+use Rattle.dg_zero.specs.Listings.{AreGainsAndLosses, conflict_keys}
+use Rattle.dg_zero.specs.declared.entry.Entry.{Entry}
+use Rattle.dg_zero.specs.Counters.{active, is_active_of}
+use Rattle.dg_zero.specs.Verdicts.{verdict}
+use Rattle.dg_zero.specs.Legal.{IsLegal}
+use Rattle.dg_zero.specs.Offers.{IsSound}
+use Rattle.dg_edges.specs.Deltas.{deltas, data_conflict, data_conflicts, preds_of, IsPlain, AreFitting}
+
+-- the parts of changes are exactly what lists gain and lose by them
+abbrev pub DeltasAgree : Type 0
+DeltasAgree = (schema : List PredDef) (graph : List Triple) (changes : List Change) → IsPlain schema → AreFitting schema changes → IsLawful schema graph → AreGainsAndLosses schema graph schema (after_changes schema graph changes) (deltas schema graph changes)
+
+-- the parts, as changes, lead where the changes lead
+abbrev pub DeltasLead : Type 0
+DeltasLead = (schema : List PredDef) (graph : List Triple) (changes : List Change) → IsPlain schema → AreFitting schema changes → IsLawful schema graph → after_changes schema graph (changes_of (deltas schema graph changes)) ≡ after_changes schema graph changes
+
+-- the keys of changes don't depend on the graph
+abbrev pub KeysAre : Type 0
+KeysAre = (schema : List PredDef) (graph : List Triple) (changes : List Change) → IsPlain schema → AreFitting schema changes → conflict_keys schema graph changes ≡ ascending conflict_cmp (data_conflicts schema changes)
+
+-- an offer of the parts and keys of one or more changes is sound
+abbrev pub OffersAreSound : Type 0
+OffersAreSound = (schema : List PredDef) (graph : List Triple) (changes : List Change) → changes ≢ [] → IsPlain schema → AreFitting schema changes → IsLawful schema graph → IsSound schema graph (preds_of changes) (conflict_keys schema graph changes) (deltas schema graph changes)
+
+-- two graphs have the same triples of these keys
+abbrev pub AgreeAt : List PredDef → List Change → List Triple → List Triple → Type 0
+AgreeAt schema changes graph later = (u : Triple) → has conflict_cmp (data_conflicts schema changes) (data_conflict schema u) ≡ true → has_triple graph u ≡ has_triple later u
+
+-- on a later graph that agrees at the keys of changes, the changes do what their parts do
+abbrev pub ChangesDoAsParts : Type 0
+ChangesDoAsParts = (schema : List PredDef) (graph later : List Triple) (changes : List Change) → IsPlain schema → AreFitting schema changes → IsLawful schema graph → IsLawful schema later → AgreeAt schema changes graph later → after_changes schema later changes ≡ after_changes schema later (changes_of (deltas schema graph changes))
+
+-- and lists gain and lose by them what they did
+abbrev pub PartsStay : Type 0
+PartsStay = (schema : List PredDef) (graph later : List Triple) (changes : List Change) → IsPlain schema → AreFitting schema changes → IsLawful schema graph → IsLawful schema later → AgreeAt schema changes graph later → deltas schema later changes ≡ deltas schema graph changes
+
+-- what another transaction committed: its changes and its keys
+pub record Done : Type 0 where
+  pub changes : List Change
+  pub keys : List ConflictKey
+
+-- the changes fit, and the keys name what they touch
+pub record IsKeyed (schema : List PredDef) (d : Done) : Type 0 where
+  pub fitting : AreFitting schema d.changes
+  pub named : AllByRecursion (λ key. has conflict_cmp d.keys key ≡ true) (data_conflicts schema d.changes)
+
+-- none of the keys of these changes was committed
+abbrev pub HasNone : List PredDef → List Change → Done → Type 0
+HasNone schema changes d = AllByRecursion (λ key. has conflict_cmp d.keys key ≡ false) (data_conflicts schema changes)
+
+-- a graph after what others committed
+abbrev pub after_done : List PredDef → List Triple → List Done → List Triple
+after_done schema graph ds = fold (λ g d. after_changes schema g d.changes) graph ds
+
+-- what others commit, without a key of some changes, leaves the triples of these keys
+abbrev pub OthersLeave : Type 0
+OthersLeave = (schema : List PredDef) (graph : List Triple) (changes : List Change) (others : List Done) → AllByRecursion (IsKeyed schema) others → AllByRecursion (HasNone schema changes) others → AgreeAt schema changes graph (after_done schema graph others)
+
+-- so at a commit its changes do what the parts do that were made of them at its start
+abbrev pub CommitsDoAsChanges : Type 0
+CommitsDoAsChanges = (schema : List PredDef) (graph : List Triple) (changes : List Change) (others : List Done) → IsPlain schema → AreFitting schema changes → IsLawful schema graph → AllByRecursion (IsKeyed schema) others → AllByRecursion (HasNone schema changes) others → after_changes schema (after_done schema graph others) changes ≡ after_changes schema (after_done schema graph others) (changes_of (deltas schema graph changes))
+
+-- in a legal history, an active start under a plain schema: where no key of changes was committed since, the parts that
+-- were made of them at the start do on the present graph what the changes do
+abbrev pub HistoriesDoAsChanges : Type 0
+HistoriesDoAsChanges = (n : ℕ) (history : List Entry) (author start : ℕ) (preds : List (List ℕ)) (keys : List ConflictKey) (changes : List Change) → IsLegal n history → IsPlain (schema_at history start) → is_active_of (active history) start author ≡ true → AreFitting (schema_at history start) changes → keys ≡ conflict_keys (schema_at history start) (graph_at history start []) changes → verdict history start preds keys ≡ None → after_changes (schema history) (world history).graph changes ≡ after_changes (schema history) (world history).graph (changes_of (deltas (schema_at history start) (graph_at history start []) changes))
+
+-- and they are what lists gain and lose by the changes in the present graph
+abbrev pub HistoriesKeepParts : Type 0
+HistoriesKeepParts = (n : ℕ) (history : List Entry) (author start : ℕ) (preds : List (List ℕ)) (keys : List ConflictKey) (changes : List Change) → IsLegal n history → IsPlain (schema_at history start) → is_active_of (active history) start author ≡ true → AreFitting (schema_at history start) changes → keys ≡ conflict_keys (schema_at history start) (graph_at history start []) changes → verdict history start preds keys ≡ None → deltas (schema history) (world history).graph changes ≡ deltas (schema_at history start) (graph_at history start []) changes
+
+-- what a sound offer's data parts put in fits the schema, whatever its other keys; so they keep a later graph lawful
+abbrev pub SoundFits : Type 0
+SoundFits = (schema : List PredDef) (graph : List Triple) (preds : List (List ℕ)) (keys : List ConflictKey) (parts : List Part) → IsSound schema graph preds keys parts → AllFit schema (changes_of parts)

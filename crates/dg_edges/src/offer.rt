@@ -1,0 +1,35 @@
+// Whole offers.
+ghost use Rattle.std.specs.Prelude.{◌≡◌, ◌≢◌, [], IfOk};
+ghost use Rattle.dg_graph.specs.Graphs.{IsLawful};
+ghost use Rattle.dg_zero.specs.Listings.{conflict_keys};
+ghost use Rattle.dg_zero.specs.Offers.{IsSound};
+ghost use Rattle.dg_edges.specs.Deltas.{deltas, preds_of, IsPlain, AreFitting};
+
+use crate::{conflict_keys, deltas_of, preds_of};
+use dg_graph::{Change, Snapshot};
+use dg_values::{List, Mem, OutOfMemory};
+use dg_zero::Offer;
+use std::alloc::Global;
+
+/// The offer to commit changes of a transaction with this start, which saw the graph of the snapshot there. It is
+/// sound where there is a change. The error is want of memory.
+pub fn offer_of<S: Snapshot>(alloc: Global, snap: &S, start: u64, changes: &[Change]) -> Mem<Offer>
+    requires plain { IsPlain (S.declared snap.now) }
+    requires fitting { AreFitting (S.declared snap.now) changes.now }
+    requires lawful { IsLawful (S.declared snap.now) (S.graph snap.now) }
+    ensures start { IfOk result (λ offer. offer.start ≡ start) }
+    ensures preds { IfOk result (λ offer. offer.preds ≡ preds_of changes.now) }
+    ensures keys { IfOk result (λ offer. offer.keys ≡ conflict_keys (S.declared snap.now) (S.graph snap.now) changes.now) }
+    ensures parts { IfOk result (λ offer. offer.parts ≡ deltas (S.declared snap.now) (S.graph snap.now) changes.now) }
+    ensures sound { changes.now ≢ [] → IfOk result (λ offer. IsSound (S.declared snap.now) (S.graph snap.now) offer.preds offer.keys offer.parts) }
+{
+    let preds = List::from_vec(preds_of(alloc, changes)?);
+    let keys = List::from_vec(conflict_keys(alloc, snap, changes)?);
+    let parts = List::from_vec(deltas_of(alloc, snap, changes)?);
+    Ok(Offer {
+        start,
+        preds,
+        keys,
+        parts,
+    })
+}
