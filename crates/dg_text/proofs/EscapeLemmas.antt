@@ -95,13 +95,16 @@ is_low b h = grind (arith, common_steps)
 
 -- a text may be cut where an escape begins, or at its end
 pub plain_ends : (bytes : List ℕ) (at n : ℕ) → at ≤ length bytes → n ≡ prefix_len is_plain (drop at bytes) → n ≤ length bytes - at → IsCharBoundary bytes (at + n)
-plain_ends bytes at n le len bound = (omega arith, λ within high.
-    let less : prefix_len is_plain (drop at bytes) < length (drop at bytes) = omega (arith, length-drop at bytes, len) in
-    let stop : is_plain (get_or (drop at bytes) (prefix_len is_plain (drop at bytes)) 0) ≡ false = prefix_len_stops is_plain (drop at bytes) 0 less in
-    let P : ℕ → Type 0 = λ k. is_plain (get_or (drop at bytes) k 0) ≡ false in
-    let Q : ℕ → Type 0 = λ b. is_plain b ≡ false in
-    let low : get_or bytes (at + n) 0 < 128 = is_low (get_or bytes (at + n) 0) (subst Q (get_or-drop at bytes n 0) (subst P (sym len) stop)) in
-    absurd (omega (arith, low, high)))
+plain_ends bytes at n le len bound = (
+  omega arith,
+  λ within high.
+      let less : prefix_len is_plain (drop at bytes) < length (drop at bytes) = omega (arith, length-drop at bytes, len) in
+      let stop : is_plain (get_or (drop at bytes) (prefix_len is_plain (drop at bytes)) 0) ≡ false = prefix_len_stops is_plain (drop at bytes) 0 less in
+      let P : ℕ → Type 0 = λ k. is_plain (get_or (drop at bytes) k 0) ≡ false in
+      let Q : ℕ → Type 0 = λ b. is_plain b ≡ false in
+      let low : get_or bytes (at + n) 0 < 128 = is_low (get_or bytes (at + n) 0) (subst Q (get_or-drop at bytes n 0) (subst P (sym len) stop)) in
+      absurd (omega (arith, low, high)),
+)
 
 low_before : (bytes : List ℕ) (at n : ℕ) → get_or bytes at 0 ≡ 92 → HasLowEnd bytes (at + 1) n → get_or bytes ((at + 1 + n) - 1) 0 < 128
 low_before bytes at zero h low =

@@ -229,7 +229,7 @@ fn push_part(out: &mut String, text: &str, at: usize) -> Mem<usize>
 /// What the characters between the quotes of a Quoted token say: each escape is the character that it names.
 #[tactic(auto, using(crate::proofs::EscapeLemmas::all_said))]
 pub fn unquoted(alloc: Global, text: &str) -> Mem<String>
-    requires { length text.now + 10 < 2 ^ 64 }
+    requires { length text.now ≤ 1048576 }
     ensures { IfOk result (λ s. string_bytes s ≡ spec.unescaped text.now) }
 {
     let mut out = String::new(alloc);

@@ -13,7 +13,7 @@ pub returns-clause-says : goal.returns-clause-says
 returns-clause-says c =
     let Long : List ℕ → Type 0 = λ text. c.run.result ≡ prefix_len is_plain (drop c.args.at text) in
     plain_says (string_bytes c.args.out.now) (string_bytes c.push_str.new.self) c.args.text.now c.args.at c.run.result
-        (c.in_ok-push_str.ensures.bytes ∙ ap (λ more. string_bytes c.args.out.now ++ more) c.range.ensures.value) (subst Long c.as_bytes.ensures.value c.run.ensures.len)
+    (c.in_ok-push_str.ensures.bytes ∙ ap (λ more. string_bytes c.args.out.now ++ more) c.range.ensures.value) (subst Long c.as_bytes.ensures.value c.run.ensures.len)
 
 pub returns-clause-forward : goal.returns-clause-forward
 returns-clause-forward c =

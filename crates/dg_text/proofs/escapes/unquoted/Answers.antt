@@ -5,7 +5,7 @@ use Rattle.dg_text.proofs.escapes.unquoted.Goals as goal
 
 pub loop-init : goal.loop-init
 loop-init c = record {
-    so_far = none_said (string_bytes c.new-out.result) c.args.text.now c.new-out.ensures.bytes;
-    turn = omega arith;
-    cut = IsCharBoundary-start c.args.text.now c.utf8.text
-  }
+  so_far = none_said (string_bytes c.new-out.result) c.args.text.now c.new-out.ensures.bytes;
+  turn = omega arith;
+  cut = IsCharBoundary-start c.args.text.now c.utf8.text;
+}
