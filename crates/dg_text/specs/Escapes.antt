@@ -1,5 +1,5 @@
 -- Escapes in a Quoted token: \ and what follows it.
-use Rattle.std.specs.Prelude.{ℕ, zero, suc, ◌+◌, ◌-◌, ◌*◌, min, Bool, true, false, ◌&&◌, ◌||◌, ◌==◌, nat_lt, nat_le, List, [], ◌∷◌, ◌++◌, ◌<◌, slice_index, Option, Some, None, codes, if◌then◌else◌}
+use Rattle.std.specs.Prelude.{ℕ, zero, suc, ◌+◌, ◌-◌, ◌*◌, min, Bool, ◌&&◌, ◌||◌, ◌==◌, nat_lt, nat_le, List, [], ◌∷◌, ◌++◌, ◌<◌, slice_index, Option, Some, None, is_some, codes, if◌then◌else◌}
 use Rattle.std.specs.List.{list_any}
 use Rattle.std.specs.Char.{is_ascii_hexdigit, encode_utf8}
 
@@ -17,15 +17,24 @@ hex_number zero so_far text = Some so_far
 hex_number (suc n) so_far [] = None
 hex_number (suc n) so_far (b ∷ rest) = if is_ascii_hexdigit b then hex_number n (hex_more so_far b) rest else None
 
+-- a number that names a character
 abbrev pub is_scalar : ℕ → Bool
 is_scalar c = nat_lt c 0xD800 || (nat_le 0xE000 c && nat_lt c 0x110000)
 
--- n hexadecimal digits that name a character
+-- the character of a number, where it names one
+abbrev pub char_of : ℕ → Option ℕ
+char_of c = if is_scalar c then Some c else None
+
+-- the character that n hexadecimal digits name
+abbrev pub hex_char : ℕ → List ℕ → Option ℕ
+hex_char n text = named (hex_number n 0 text) where
+  named : Option ℕ → Option ℕ
+  named None = None
+  named (Some c) = char_of c
+
+-- n hexadecimal digits, where they name a character
 abbrev pub hex_len : ℕ → List ℕ → ℕ
-hex_len n text = sized (hex_number n 0 text) where
-  sized : Option ℕ → ℕ
-  sized None = 0
-  sized (Some c) = if is_scalar c then n else 0
+hex_len n text = if is_some (hex_char n text) then n else 0
 
 -- t b n r f " ' \ /
 abbrev pub is_simple : ℕ → Bool
@@ -55,17 +64,6 @@ simple b =
     else if b == 114 then 13
     else if b == 102 then 12
     else b
-
--- the character of a number, where it names one
-abbrev pub char_of : ℕ → Option ℕ
-char_of c = if is_scalar c then Some c else None
-
--- the character that n hexadecimal digits name
-abbrev pub hex_char : ℕ → List ℕ → Option ℕ
-hex_char n text = named (hex_number n 0 text) where
-  named : Option ℕ → Option ℕ
-  named None = None
-  named (Some c) = char_of c
 
 -- the character of the escape whose \ stands before a text
 abbrev pub escape_char : List ℕ → Option ℕ

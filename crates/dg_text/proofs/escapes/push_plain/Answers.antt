@@ -1,4 +1,4 @@
-use Rattle.std.proofs.Common.{◌≡◌, ◌++◌, ◌+◌, ◌-◌, ◌≤◌, List, ℕ, length, drop, slice_range, string_bytes, arith, ◌∙◌, ap, subst}
+use Rattle.std.proofs.Common.{◌≡◌, ◌++◌, ◌-◌, ◌≤◌, List, ℕ, length, drop, string_bytes, arith, ◌∙◌, ap, subst}
 use Rattle.std.specs.List.{prefix_len}
 use Rattle.dg_text.proofs.EscapeLemmas.{is_plain, plain_says, plain_ends, plain_some}
 use Rattle.dg_text.proofs.escapes.push_plain.Goals as goal

@@ -1,4 +1,4 @@
-use Rattle.std.proofs.Common.{◌≡◌, ◌++◌, ◌≤◌, drop, length, string_bytes}
+use Rattle.std.proofs.Common.{◌≡◌, ◌++◌, ◌≤◌, drop, string_bytes}
 use Rattle.std.specs.Str.{IsCharBoundary}
 use Rattle.dg_text.specs.Escapes.{unescaped}
 use Rattle.dg_text.proofs.escapes.unquoted.Given as goal
