@@ -7,7 +7,7 @@ use std::fmt;
 pub enum LexFault {
     /// There is no memory for the tokens.
     OutOfMemory,
-    /// No token, blank or comment starts at the byte at `offset`, and it is the first such byte.
+    /// The byte at `offset` is the first that begins no token, blank or comment.
     BadToken { offset: u32 },
 }
 
