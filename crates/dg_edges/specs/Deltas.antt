@@ -33,6 +33,7 @@ parts_at ops (key ∷ more) = and_part key (ops key) (parts_at ops more)
 abbrev pub gains : List PredDef → List Triple → List Triple → Key → List Op
 gains schema graph new_graph key = changes_between (listing schema graph key) (listing schema new_graph key)
 
+-- the key of the list that a change is made in
 abbrev pub data_key : Change → Key
 data_key change = keys.Data (changed change).p (changed change).s
 
@@ -48,6 +49,7 @@ deltas schema graph changes = parts_at (gains schema graph (after_changes schema
 abbrev pub data_conflict : List PredDef → Triple → ConflictKey
 data_conflict schema t = conflicts.Data t.p t.s (if is_single schema t.p then None else Some t.o)
 
+-- the keys by which changes of triples conflict
 abbrev pub data_conflicts : List PredDef → List Change → List ConflictKey
 data_conflicts schema changes = map (λ c. data_conflict schema (changed c)) changes
 
@@ -59,6 +61,7 @@ preds_of changes = ascending text_cmp (map (λ c. (changed c).p) changes)
 abbrev pub IsPlainDefinition : PredDef → Type 0
 IsPlainDefinition def = (def.tokens ≡ []) × (def.reverse ≡ false) × (def.count ≡ false)
 
+-- no definition has index, reverse or count
 abbrev pub IsPlain : List PredDef → Type 0
 IsPlain schema = AllByRecursion IsPlainDefinition schema
 

@@ -25,6 +25,7 @@ abbrev pub there_after : List PredDef → Triple → Bool → Change → Bool
 there_after schema u there (Set t) = is_eq (triple_cmp t u) || (not (is_cleared schema t u) && there)
 there_after schema u there (Del t) = not (is_eq (triple_cmp u t)) && there
 
+-- whether a triple is there after changes in turn, by whether it was
 abbrev pub there_after_all : List PredDef → Triple → Bool → List Change → Bool
 there_after_all schema u there changes = fold (there_after schema u) there changes
 
@@ -33,10 +34,12 @@ abbrev pub own_objects_after : List PredDef → List Posting → Change → List
 own_objects_after schema objects (Set t) = if is_single schema t.p then t.o ∷ [] else with_one posting_cmp objects t.o
 own_objects_after schema objects (Del t) = without_one posting_cmp objects t.o
 
+-- the triple that a change puts in or takes out
 abbrev pub changed : Change → Triple
 changed (Set t) = t
 changed (Del t) = t
 
+-- the objects of a subject after a change of any triple
 abbrev pub objects_after : List PredDef → List ℕ → ℕ → List Posting → Change → List Posting
 objects_after schema p s objects change = if is_of_subject p s (changed change) then own_objects_after schema objects change else objects
 
@@ -45,5 +48,6 @@ abbrev pub Fits : List PredDef → Change → Type 0
 Fits schema (Set t) = fits schema t ≡ true
 Fits schema (Del t) = Unit {0}
 
+-- each change fits
 abbrev pub AllFit : List PredDef → List Change → Type 0
 AllFit schema changes = AllByRecursion (Fits schema) changes

@@ -60,6 +60,7 @@ abbrev pub fits_by : Option PredDef → Triple → Bool
 fits_by None triple = false
 fits_by (Some definition) triple = is_of_kind definition.kind triple.o
 
+-- the same, under a schema
 abbrev pub fits : List PredDef → Triple → Bool
 fits schema triple = fits_by (definition_of schema triple.p) triple
 

@@ -26,12 +26,15 @@ StaysLawful = (schema : List PredDef) (graph : List Triple) (changes : List Chan
 abbrev pub ObjectsAre : Type 0
 ObjectsAre = (graph : List Triple) (p : List ℕ) (s : ℕ) (o : Posting) → has posting_cmp (objects graph p s) o ≡ has_triple graph (record { s = s; p = p; o = o })
 
+-- the subjects of an object are those of the graph's triples
 abbrev pub SubjectsAre : Type 0
 SubjectsAre = (graph : List Triple) (p : List ℕ) (s : ℕ) (o : Posting) → has nat_cmp (subjects_of graph p o) s ≡ has_triple graph (record { s = s; p = p; o = o })
 
+-- objects come in order where the triples do
 abbrev pub ObjectsAscend : Type 0
 ObjectsAscend = (graph : List Triple) (p : List ℕ) (s : ℕ) → Ascends triple_cmp graph → Ascends posting_cmp (objects graph p s)
 
+-- subjects come in order
 abbrev pub SubjectsAscend : Type 0
 SubjectsAscend = (graph : List Triple) (p : List ℕ) (o : Posting) → Ascends nat_cmp (subjects_of graph p o)
 

@@ -63,6 +63,7 @@ key_value_text (values.Text text) = quoted text
 key_value_text (values.Bool b) = truth_text b
 key_value_text (values.Time moment) = quoted (time_text moment)
 
+-- nodes as they print, and values
 abbrev pub posting_text : Posting → List ℕ
 posting_text (postings.Uid n) = node_text n
 posting_text (postings.Val value) = key_value_text value

@@ -76,6 +76,7 @@ option_itself : {X : Type 0} (cmp : X → X → Ordering) → IsOrder cmp → (a
 option_itself cmp o None = refl
 option_itself cmp o (Some x) = o.itself x
 
+-- nothing comes first, and then what is there in its order
 pub option_order : {X : Type 0} (cmp : X → X → Ordering) → IsOrder cmp → IsOrder (option_cmp cmp)
 option_order cmp o = record { antisymm = option_antisymm cmp o; trans = option_trans cmp o; same = option_same cmp o; itself = option_itself cmp o }
 
@@ -107,9 +108,11 @@ at_rank tokenizers.Month = refl
 at_rank tokenizers.Day = refl
 at_rank tokenizers.Hour = refl
 
+-- the order of tokenizers
 pub tokenizer_order : IsOrder tokenizer_cmp
 tokenizer_order = by_order tokenizer_rank nat_cmp nat_order (λ a b e. sym (at_rank a) ∙ (ap tokenizer_at e ∙ at_rank b))
 
+-- the order of tokens
 pub index_token_order : IsOrder index_token_cmp
 index_token_order = then_order (λ (t : IndexToken). t.tokenizer) (λ (t : IndexToken). t.value) tokenizer_cmp value_cmp tokenizer_order value_order (λ x y p q i. record { tokenizer = p i; value = q i })
 
@@ -199,6 +202,7 @@ fields_by_parts (keys.RCount p a) (keys.RCount q b) = then_equal (nat_cmp a b)
 key_by_parts : (a b : Key) → key_parts_cmp (key_parts a) (key_parts b) ≡ key_cmp a b
 key_by_parts a b = ap (λ r. ordering_then (text_cmp (pred_of a) (pred_of b)) r) (fields_by_parts a b)
 
+-- the order of keys of lists
 pub key_order : IsOrder key_cmp
 key_order = subst IsOrder (λ i a b. key_by_parts a b i) (by_order key_parts key_parts_cmp key_parts_order same_key_parts)
 
@@ -293,6 +297,7 @@ conflict_by_parts (RCount p s) (Index q t r) = refl
 conflict_by_parts (RCount p s) (Count q t) = refl
 conflict_by_parts (RCount p s) (RCount q t) = ap (λ w. ordering_then (text_cmp p q) w) (then_equal (nat_cmp s t))
 
+-- the order of conflict keys
 pub conflict_order : IsOrder conflict_cmp
 conflict_order = subst IsOrder (λ i a b. conflict_by_parts a b i) (by_order conflict_parts conflict_parts_cmp conflict_parts_order same_conflict_parts)
 

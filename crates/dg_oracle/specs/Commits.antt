@@ -14,6 +14,7 @@ pub record OracleState (K : Type 0) : Type 0 where
   pub commits : List (Commit K)
   pub line : ℕ
 
+-- the timestamp of a commit
 abbrev pub ts_of : {K : Type 0} → Commit K → ℕ
 ts_of c = c.ts
 

@@ -18,6 +18,7 @@ AreDistinct (definition ∷ more) = AllByRecursion (λ other. is_named definitio
 abbrev pub definition_of : List PredDef → List ℕ → Option PredDef
 definition_of schema name = find (is_named name) schema
 
+-- the name is declared
 abbrev pub is_declared : List PredDef → List ℕ → Bool
 is_declared schema name = is_some (definition_of schema name)
 
@@ -42,5 +43,6 @@ abbrev pub is_single_by : Option PredDef → Bool
 is_single_by None = false
 is_single_by (Some definition) = not definition.list
 
+-- the same by name, under a schema
 abbrev pub is_single : List PredDef → List ℕ → Bool
 is_single schema name = is_single_by (definition_of schema name)

@@ -11,6 +11,7 @@ use Rattle.dg_schema.specs.Definitions.{AreDistinct, is_declared}
 abbrev pub name_at : List PredDef → ℕ → List ℕ
 name_at schema place = option_map_or (λ d. d.name) (slice_get schema place) []
 
+-- the names of the definitions at places
 abbrev pub names_at : List PredDef → List ℕ → List (List ℕ)
 names_at schema places = map (name_at schema) places
 

@@ -41,6 +41,7 @@ learning v = idle (longer v.seen v.told) v.numbers
 abbrev pub noted : {E : Type 0} → View E → View E
 noted v = idle v.seen []
 
+-- all but the first, and the first alone, where there is one
 abbrev pub tail_of : List OwnPlaces → List OwnPlaces
 tail_of [] = []
 tail_of (p ∷ ps) = ps
