@@ -1,5 +1,5 @@
 -- Offers that change nothing are sound, and so is an alter over the empty history.
-use Rattle.std.proofs.Common.{◌≡◌, ◌≢◌, ℕ, Bool, true, false, ◌++◌, List, [], ◌∷◌, Option, Some, None, refl, sym, subst, arith}
+use Rattle.std.proofs.Common.{◌≡◌, ◌≢◌, ℕ, ◌+◌, Bool, true, false, ◌++◌, List, [], ◌∷◌, Option, Some, None, refl, ap, sym, subst, ◌∙◌, arith}
 use Rattle.std.specs.Prelude.{◌==◌, ◌&&◌, ◌||◌}
 use Rattle.std.specs.List.{AllByRecursion}
 use Rattle.std.proofs.lemmas.Grind.{common_steps}
@@ -22,11 +22,11 @@ use Rattle.dg_zero.specs.Listings.{listing, listing_by}
 use Rattle.dg_zero.specs.Offers.{IsSound}
 use Rattle.dg_zero.specs.declared.entry.Event.{Event}
 use Rattle.dg_zero.specs.declared.entry.Event.TheVariants.{Begin}
-use Rattle.dg_zero.specs.Counters.{Started, active, is_active_of}
+use Rattle.dg_zero.specs.Counters.{next, Started, active, is_active_of}
 use Rattle.dg_zero.specs.States.{Zero, KeepKinds, AreAlterParts, and_entry, and_then}
-use Rattle.dg_zero.proofs.Histories.{active_push}
-use Rattle.dg_zero.proofs.LawsOfHistories.{starts_stay}
-use Rattle.dg_zero.specs.Worlds.{schema_at, graph_at}
+use Rattle.dg_zero.proofs.Histories.{active_push, next_push}
+use Rattle.dg_zero.proofs.LawsOfHistories.{starts_stay, world_push, present_is_last}
+use Rattle.dg_zero.specs.Worlds.{World, schema, schema_at, graph_at}
 use Rattle.dg_zero.proofs.LawfulGraphs.{graphs_are_lawful}
 
 none_missing : (have want : List Posting) → AllByRecursion (λ y. has posting_cmp have y ≡ true) want → missing have want ≡ []
@@ -68,6 +68,20 @@ first_parts newer = record {
 pub first_kinds : (newer : List PredDef) → KeepKinds [] newer
 first_kinds [] = tt
 first_kinds (def ∷ newer) = (tt, first_kinds newer)
+
+begun_schema : (n : ℕ) (h : List Entry) (author start : ℕ) → IsLegal n (and_entry h author (Begin start)) → start ≡ next h → schema_at (and_entry h author (Begin start)) start ≡ schema h
+begun_schema n h author start l is =
+    let e : Entry = record { author = author; event = Begin start } in
+    let grown : next (h ++ e ∷ []) ≡ next h + 1 = next_push h e in
+    ap (λ (w : World). w.schema) (present_is_last n (h ++ e ∷ []) start l (omega arith) ∙ world_push h e)
+
+-- the schema at a start that was just drawn is the present one before it
+pub start_schema : (before after : Zero) (author start : ℕ) (declared : List PredDef) → after ≡ and_then before author (Begin (next before.history)) → IsLegal after.groups after.history → start ≡ next before.history → declared ≡ schema before.history → declared ≡ schema_at after.history start
+start_schema before after author start declared is legal drawn same =
+    let there : IsLegal before.groups (and_entry before.history author (Begin (next before.history))) = subst (λ (z : Zero). IsLegal z.groups z.history) is legal in
+    same
+    ∙ (sym (begun_schema before.groups before.history author (next before.history) there refl)
+    ∙ λ i. schema_at (sym is i).history (sym drawn i))
 
 later : (b c : Bool) → c ≡ true → (b || c) ≡ true
 later true c e = refl

@@ -13,3 +13,5 @@ pub mod NewTablets
 pub mod AlterKeeps
 pub mod Streams
 pub mod EmptyOffers
+pub mod SeenEvents
+pub mod SeenObjects

@@ -11,3 +11,4 @@ pub mod Pasts
 pub mod Records
 pub mod States
 pub mod Altering
+pub mod Seen

@@ -1,5 +1,6 @@
 // The call that commits.
 ghost use Rattle.std.specs.Prelude.{◌≡◌, ◌^◌, ◌<◌, [], true, None, IfOk, IfErr, OnOk};
+ghost use Rattle.dg_values.specs.Ascending.{Ascends};
 ghost use Rattle.dg_keys.specs.Conflicts.{conflict_cmp};
 ghost use Rattle.dg_oracle.specs.Verdicts as oracle;
 ghost use Rattle.dg_zero.specs.Counters.{next, active, is_active_of};
@@ -38,6 +39,15 @@ impl ZeroState {
             Verdict::Conflict { at, ts } => Err(self.refuse(slip, offer, keys, at, ts)),
             Verdict::Clear => self.write(slip, offer, keys),
         }
+    }
+
+    /// The verdict on the ascending keys of a transaction with this start, over all commits. It appends nothing and takes
+    /// no memory.
+    pub fn judge(&self, start: u64, keys: &[ConflictKey]) -> Verdict
+        requires ascend { Ascends conflict_cmp keys.now }
+        ensures { result ≡ oracle.verdict conflict_cmp (commits self.now.history) start keys.now }
+    {
+        self.oracle.judge(start, keys)
     }
 
     // Ends the transaction of an offer whose keys conflict, and names the key.

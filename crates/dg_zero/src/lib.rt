@@ -15,6 +15,7 @@ mod offer;
 mod owners;
 mod past;
 mod place;
+mod seen;
 mod stream;
 mod zero;
 
@@ -25,6 +26,7 @@ pub use offer::Offer;
 pub use owners::Owners;
 pub use past::Slip;
 pub use place::Phase;
+pub use seen::Seen;
 pub use zero::{Begun, ZeroState};
 
 #[cfg(test)]
