@@ -1,3 +1,11 @@
 pub mod Names
 pub mod Joining
 pub mod ByName
+pub mod Lists
+pub mod Lines
+pub mod NameOrder
+pub mod Saying
+pub mod Understood
+pub mod BackAgain
+pub mod WholeNames
+pub mod Writable

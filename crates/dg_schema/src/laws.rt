@@ -1,5 +1,6 @@
-// What holds of definitions that are added to others.
+// What holds of definitions that are added to others, and of their text.
 ghost use Rattle.dg_schema.specs.Laws.{JoinsInPlace, KeepsNamesInOrder, NewerComesFirst, StaysDistinct};
+ghost use Rattle.dg_schema.specs.Readable.{JoinsReadable, ReadsBack, ReadsReadable};
 
 /// Where definitions are added to older ones, a name has its newer definition before its older one, names stay
 /// distinct, and each stays in its place, those that are new behind them in their order.
@@ -8,4 +9,12 @@ pub fn definitions_join()
     ensures distinct { StaysDistinct }
     ensures in_place { JoinsInPlace }
     ensures names { KeepsNamesInOrder }
+{}
+
+/// What is printed of definitions that can be written reads as these definitions, in ascending order of their names. All
+/// that is read can be written, and so can what is joined of such.
+pub fn schemas_read_back()
+    ensures back { ReadsBack }
+    ensures readable { ReadsReadable }
+    ensures joined { JoinsReadable }
 {}

@@ -1,13 +1,22 @@
-//! Which predicates are declared, and how.
+//! Which predicates are declared, and how; and the language in which they are declared.
 #![tactic(auto)]
 
+mod checks;
 mod definition;
+mod fault;
+mod grammar;
 mod laws;
 mod places;
+mod printing;
+mod reading;
 mod schema;
+mod statement;
+mod words;
 
 pub use definition::PredDef;
-pub use laws::definitions_join;
+pub use fault::SchemaFault;
+pub use laws::{definitions_join, schemas_read_back};
+pub use reading::read_schema;
 pub use schema::Schema;
 
 #[cfg(test)]

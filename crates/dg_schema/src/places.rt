@@ -22,8 +22,8 @@ fn place_at(places: &[usize], at: usize) -> Option<usize>
     places.get(at).copied()
 }
 
-// The definition at a place.
-fn definition_at<'a>(definitions: &'a [PredDef], place: usize) -> Option<&'a PredDef>
+/// The definition at a place.
+pub fn definition_at<'a>(definitions: &'a [PredDef], place: usize) -> Option<&'a PredDef>
     ensures { option_copied result ≡ slice_get definitions.now place }
 {
     definitions.get(place)

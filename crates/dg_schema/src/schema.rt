@@ -1,9 +1,10 @@
 // Definitions with distinct names.
-ghost use Rattle.std.specs.Prelude.{◌≡◌, false, fold, [], ◌∷◌, ◌++◌, IfOk, OnOk, option_copied};
+ghost use Rattle.std.specs.Prelude.{◌≡◌, false, fold, [], ◌∷◌, ◌++◌, IfOk, OnOk, option_copied, string_bytes};
 ghost use Rattle.dg_schema.specs.Definitions.{definition_of, is_declared, with_definitions, AreDistinct};
 ghost use Rattle.dg_schema.specs.Joined.{newest, renewed, with_missing};
+ghost use Rattle.dg_schema.specs.Texts.{schema_text};
 
-use crate::{PredDef, places};
+use crate::{PredDef, places, printing};
 use dg_values::{Mem, OutOfMemory};
 use std::alloc::Global;
 use std::marker::Model;
@@ -116,6 +117,18 @@ impl Schema {
         Ok(schema)
     }
 
+    /// One line for each definition, in ascending order of the names, as the schema language has it.
+    pub fn text_of(&self) -> Mem<String>
+        ensures { IfOk result (λ text. string_bytes text ≡ schema_text self.now) }
+    {
+        let text = printing::lines_at(
+            self.alloc,
+            self.definitions.as_slice(),
+            self.by_name.as_slice(),
+        )?;
+        Ok(text.into_string())
+    }
+
     // The definitions in their places, each with its newer namesake there.
     fn renewed(&self, newer: &Schema) -> Mem<Schema>
         ensures { IfOk result (λ schema. schema ≡ renewed newer.now self.now) }
@@ -142,7 +155,7 @@ impl Schema {
     }
 
     // Adds a definition whose name isn't declared.
-    fn add(&mut self, definition: PredDef) -> Mem<()>
+    pub(crate) fn add(&mut self, definition: PredDef) -> Mem<()>
         requires missing { is_declared self.old definition.name ≡ false }
         ensures ok { OnOk result (self.new ≡ self.old ++ definition ∷ []) }
     {

@@ -1,4 +1,5 @@
-use crate::{PredDef, Schema};
+// Expected lines and texts are written by hand from the grammar.
+use crate::{PredDef, Schema, SchemaFault, read_schema};
 use dg_values::{Kind, List, Mem, OutOfMemory, Str, Tokenizer};
 use std::alloc::Global;
 use std::test::Fail;
@@ -59,5 +60,69 @@ fn copies_are_equal(rt: HostRuntime) -> Result<(), Fail> {
             .is_some_and(|d| d.count && !d.upsert && d.tokens.len() == 1)
     );
     assert_eq!(rt; Schema::new(alloc).definitions().len(), 0);
+    Ok(())
+}
+
+// Texts that are no schema, each with the line of its fault.
+const REFUSED: [(&str, u32); 18] = [
+    ("a: int .\na: int .", 2),
+    ("count: int .", 1),
+    ("<a.b>: int @upsert .\n", 1),
+    ("a: int\n\n;", 3),
+    ("a: int # .\n\n", 3),
+    ("\n<1a>: int .", 2),
+    ("a:\ntext .", 2),
+    ("a\n: int @index(int, int)\n.", 1),
+    ("a: string @index(exact,\nterm) @index .\n", 1),
+    ("\na: [uid] @index .", 2),
+    ("a: string @index .", 1),
+    ("a: int @index(exact) .", 1),
+    ("a: int @reverse .", 1),
+    ("a: int @index(\n) .", 2),
+    ("a: int\n@lang .", 2),
+    ("a: int .\nb: int @count\n@count .\nc", 2),
+    ("a: default @index(hash) .", 1),
+    ("a: int .\n.", 2),
+];
+
+// Of all kinds and directives, in the order of the names.
+const PRINTED: &str =
+    "a.b: [uid] @reverse @count .\nb: dateTime @index(year) .\nd: default .\nf: [bool] @index(bool) .\nn: int @index(int) .\ns: string @index(trigram, exact) @upsert .\nt: dateTime @index(hour, day) @upsert .\n";
+
+// The same otherwise written.
+const WRITTEN: &str =
+    "t: dateTime @index(hour, day) @upsert .\n<a.b>: [uid] @count @reverse.\nn: int @index .\nb: datetime @index .\ns: string @upsert @index(trigram,exact) .\nd: default .\nf: [bool] @index # the end\n.";
+
+// The line at which a text is refused.
+fn refused(alloc: Global, text: &str) -> Option<u32> {
+    if text.len() > 1_048_576 {
+        return None;
+    }
+    match read_schema(alloc, text) {
+        Err(SchemaFault::SchemaSyntax { line }) => Some(line),
+        _ => None,
+    }
+}
+
+#[test]
+fn faults_have_their_lines(rt: HostRuntime) -> Result<(), Fail> {
+    for (text, line) in REFUSED {
+        assert_eq!(rt; refused(rt.alloc(), text), Some(line));
+    }
+    let text = format!(in rt.alloc(); "{}", SchemaFault::SchemaSyntax { line: 7 })?;
+    assert_eq!(rt; text.as_str(), "no schema by line 7");
+    Ok(())
+}
+
+#[test]
+fn schemas_are_read_and_printed(rt: HostRuntime) -> Result<(), Fail> {
+    let alloc = rt.alloc();
+    let schema = read_schema(alloc, WRITTEN)?;
+    assert_eq!(rt; place(&schema, "a.b"), Some(1));
+    assert_eq!(rt; schema.text_of()?.as_str(), PRINTED);
+    let again = read_schema(alloc, PRINTED)?;
+    assert_eq!(rt; place(&again, "a.b"), Some(0));
+    assert_eq!(rt; again.text_of()?.as_str(), PRINTED);
+    assert!(rt; read_schema(alloc, "")?.definitions().is_empty());
     Ok(())
 }

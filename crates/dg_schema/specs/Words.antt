@@ -1,0 +1,110 @@
+-- The words of the schema language.
+use Rattle.std.specs.Prelude.{ℕ, Bool, true, false, ◌||◌, ◌&&◌, not, List, Option, Some, None, codes, if◌then◌else◌, length, ◌==◌, nat_le}
+use Rattle.std.specs.Str.{bytes_eq}
+use Rattle.dg_text.specs.Tokens.{Tok, is_name, is_iri, is_at}
+use Rattle.dg_text.specs.Forms.{name_len}
+use Rattle.dg_values.specs.declared.kind.Kind.{Kind}
+use Rattle.dg_values.specs.declared.kind.Kind.TheVariants as kinds
+use Rattle.dg_values.specs.declared.kind.Tokenizer.{Tokenizer}
+use Rattle.dg_values.specs.declared.kind.Tokenizer.TheVariants as tokenizers
+use Rattle.dg_schema.specs.declared.words.Directive.{Directive}
+use Rattle.dg_schema.specs.declared.words.Directive.TheVariants as directives
+
+-- the kind that a word names
+abbrev pub kind_of_word : List ℕ → Option Kind
+kind_of_word word =
+    if bytes_eq word (codes "default") then Some kinds.Default
+    else if bytes_eq word (codes "string") then Some kinds.Text
+    else if bytes_eq word (codes "int") then Some kinds.Int
+    else if bytes_eq word (codes "bool") then Some kinds.Bool
+    else if bytes_eq word (codes "dateTime") || bytes_eq word (codes "datetime") then Some kinds.Time
+    else if bytes_eq word (codes "uid") then Some kinds.Uid
+    else None
+
+-- the tokenizer that a word names
+abbrev pub tokenizer_of_word : List ℕ → Option Tokenizer
+tokenizer_of_word word =
+    if bytes_eq word (codes "exact") then Some tokenizers.Exact
+    else if bytes_eq word (codes "hash") then Some tokenizers.Hash
+    else if bytes_eq word (codes "term") then Some tokenizers.Term
+    else if bytes_eq word (codes "trigram") then Some tokenizers.Trigram
+    else if bytes_eq word (codes "int") then Some tokenizers.Int
+    else if bytes_eq word (codes "bool") then Some tokenizers.Bool
+    else if bytes_eq word (codes "year") then Some tokenizers.Year
+    else if bytes_eq word (codes "month") then Some tokenizers.Month
+    else if bytes_eq word (codes "day") then Some tokenizers.Day
+    else if bytes_eq word (codes "hour") then Some tokenizers.Hour
+    else None
+
+-- the directive that a word with its @ names
+abbrev pub directive_of_word : List ℕ → Option Directive
+directive_of_word word =
+    if bytes_eq word (codes "@index") then Some directives.Index
+    else if bytes_eq word (codes "@reverse") then Some directives.Reverse
+    else if bytes_eq word (codes "@count") then Some directives.Count
+    else if bytes_eq word (codes "@upsert") then Some directives.Upsert
+    else None
+
+-- a Name that is a scalar
+abbrev pub kind_meant : Tok → Option Kind
+kind_meant token = if is_name token then kind_of_word token.text else None
+
+-- a Name that is a tokenizer
+abbrev pub tokenizer_meant : Tok → Option Tokenizer
+tokenizer_meant token = if is_name token then tokenizer_of_word token.text else None
+
+-- an At that is a directive
+abbrev pub directive_meant : Tok → Option Directive
+directive_meant token = if is_at token then directive_of_word token.text else None
+
+-- all of the text is one Name
+abbrev pub is_whole_name : List ℕ → Bool
+is_whole_name text = not (name_len text == 0) && (name_len text == length text) && nat_le (name_len text) 64
+
+-- The predicate that a Name stands for, or an Iri with a Name in it. The text of an Iri is what stands between < and >.
+abbrev pub predicate_meant : Tok → Option (List ℕ)
+predicate_meant token = if is_name token || (is_iri token && is_whole_name token.text) then Some token.text else None
+
+-- names that the query language keeps for itself
+abbrev pub is_reserved : List ℕ → Bool
+is_reserved word =
+    bytes_eq word (codes "uid") || bytes_eq word (codes "count") || bytes_eq word (codes "val") || bytes_eq word (codes "min")
+    || bytes_eq word (codes "max") || bytes_eq word (codes "sum") || bytes_eq word (codes "as") || bytes_eq word (codes "expand")
+
+-- the tokenizer is one of the kind's
+abbrev pub fits_kind : Kind → Tokenizer → Bool
+fits_kind kinds.Text t = of_text t where
+  of_text : Tokenizer → Bool
+  of_text tokenizers.Exact = true
+  of_text tokenizers.Hash = true
+  of_text tokenizers.Term = true
+  of_text tokenizers.Trigram = true
+  of_text _ = false
+fits_kind kinds.Int t = of_int t where
+  of_int : Tokenizer → Bool
+  of_int tokenizers.Int = true
+  of_int _ = false
+fits_kind kinds.Bool t = of_bool t where
+  of_bool : Tokenizer → Bool
+  of_bool tokenizers.Bool = true
+  of_bool _ = false
+fits_kind kinds.Time t = of_time t where
+  of_time : Tokenizer → Bool
+  of_time tokenizers.Year = true
+  of_time tokenizers.Month = true
+  of_time tokenizers.Day = true
+  of_time tokenizers.Hour = true
+  of_time _ = false
+fits_kind _ t = false
+
+-- the tokenizer that @index stands for without a list
+abbrev pub default_token : Kind → Option Tokenizer
+default_token kinds.Int = Some tokenizers.Int
+default_token kinds.Bool = Some tokenizers.Bool
+default_token kinds.Time = Some tokenizers.Year
+default_token _ = None
+
+-- the kind of nodes
+abbrev pub is_uid : Kind → Bool
+is_uid kinds.Uid = true
+is_uid _ = false
