@@ -1,143 +1,214 @@
--- What the plain machine keeps true goes on.
-use Rattle.std.proofs.Common.{◌≡◌, ℕ, ◌+◌, ◌<◌, ◌≤◌, Bool, true, false, ◌&&◌, ◌||◌, List, [], ◌∷◌, ◌++◌, Option, Some, None, refl, ap, sym, subst, ◌∙◌, arith}
-use Rattle.std.specs.Prelude.{nat_lt, nat_le, Result, Ok, Err, OnOk, OnErr}
-use Rattle.std.specs.List.{list_all, list_any}
-use Rattle.std.specs.Str.{bytes_eq}
-use Rattle.std.proofs.lemmas.Bool.{false≢true, and_parts}
-use Rattle.std.proofs.lemmas.Bool.Decides.{nat_tests}
-use Rattle.std.proofs.lemmas.List.Folds.{list_all-append, list_any-append}
-use Rattle.dg_node.specs.declared.facts.Fact.{Fact}
-use Rattle.dg_node.specs.declared.machine.Declared.{Declared}
-use Rattle.dg_node.specs.declared.machine.Committed.{Committed}
-use Rattle.dg_node.specs.declared.machine.Opened.{Opened}
-use Rattle.dg_node.specs.Plain.{is_declared_by, are_declared_by, commits_fit, session_fits, alters_fit, IsKept}
-use Rattle.dg_node.proofs.Bools.{joined}
+-- What the engine keeps through each entry of the history.
+use Rattle.std.proofs.Common.{◌≡◌, ◌≢◌, ℕ, ◌≤◌, Bool, true, false, cond, List, [], ◌∷◌, ◌++◌, refl, ap, subst, sym, ◌∙◌, arith}
+use Rattle.std.specs.Prelude.{map, ◌==◌, ◌&&◌, ◌||◌}
+use Rattle.std.specs.List.{AllByRecursion}
+use Rattle.std.specs.Arc.{arc_value}
+use Rattle.std.proofs.lemmas.List.{map-append}
+use Rattle.std.proofs.lemmas.Grind.{common_steps}
+use Rattle.dg_schema.specs.declared.definition.PredDef.{PredDef}
+use Rattle.dg_schema.specs.Definitions.{is_named, is_declared, replaced, with_definition}
+use Rattle.dg_keys.specs.declared.record.Part.{Part}
+use Rattle.dg_keys.specs.declared.record.Tablet.{Tablet}
+use Rattle.dg_edges.specs.Deltas.{AreFitting, IsPlain, IsPlainDefinition}
+use Rattle.dg_oracle.specs.Commits as oracle
+use Rattle.dg_zero.specs.declared.entry.Entry.{Entry}
+use Rattle.dg_zero.specs.declared.entry.Event.{Event}
+use Rattle.dg_zero.specs.declared.entry.Event.TheVariants.{Begin, Look}
+use Rattle.dg_zero.specs.declared.place.Phase.TheVariants.{Idle}
+use Rattle.dg_zero.specs.declared.place.Place.{Place}
+use Rattle.dg_zero.specs.Counters.{Started, next, active, active_after, ended, starts_of, is_active_of, line}
+use Rattle.dg_zero.specs.Legal.{IsLegal}
+use Rattle.dg_zero.specs.Places.{Places, places, tablets, fresh, fresh_place}
+use Rattle.dg_zero.specs.States.{Zero, and_then, and_entry, alter_of}
+use Rattle.dg_zero.specs.Worlds.{World, world, schema}
+use Rattle.dg_zero.proofs.Histories.{next_push, active_push, places_push}
+use Rattle.dg_zero.proofs.LawsOfHistories.{world_push, line_stays_below}
+use Rattle.dg_zero.proofs.Kept.{IsStill}
+use Rattle.dg_node.specs.declared.engine.Opened.{Opened}
+use Rattle.dg_node.specs.Kept.{IsString, started, AreApart, IsOpened, IsKept}
+use Rattle.dg_node.specs.Alters.{string_definition}
+use Rattle.dg_oracle.proofs.Oracles.{all_push}
+use Rattle.dg_node.proofs.OneAmong.{all_around, all_joined, apart_without, apart_push, apart_with, apart_ascending, without}
+use Rattle.dg_node.proofs.MachineLemmas.{all_from}
 
-left_or : (a b : Bool) → a ≡ true → (a || b) ≡ true
-left_or true b h = refl
-left_or false b h = absurd (false≢true h)
+-- open transactions under the same schema
+opened_alike : (h k : List Entry) (o : Opened) → next h ≤ next k → schema k ≡ schema h → IsOpened h o → IsOpened k o
+opened_alike h k o le e is = record {
+  drawn = omega (arith, le, is.drawn);
+  schema_is = is.schema_is ∙ sym e;
+  fitting = subst (λ (s : List PredDef). AreFitting s o.own) (sym e) is.fitting;
+  author = is.author;
+}
 
--- a stronger test
-all_more : {A : Type 0} (p q : A → Bool) (xs : List A) → ((x : A) → p x ≡ true → q x ≡ true) → list_all p xs ≡ true → list_all q xs ≡ true
-all_more p q [] more h = refl
-all_more p q (x ∷ xs) more h = let parts = and_parts (p x) (list_all p xs) h in joined (q x) (list_all q xs) (more x parts.0) (all_more p q xs more parts.1)
+schema_same : (h : List Entry) (author : ℕ) (event : Event) → IsStill event → schema (and_entry h author event) ≡ schema h
+schema_same h author event s = ap (λ (w : World). w.schema) (world_push h (record { author = author; event = event })) ∙ s.schema_stays (world h)
 
-any_more : {A : Type 0} (p q : A → Bool) (xs : List A) → ((x : A) → p x ≡ true → q x ≡ true) → list_any p xs ≡ true → list_any q xs ≡ true
-any_more p q [] more h = absurd (false≢true h)
-any_more p q (x ∷ xs) more h = by (p x) refl (any_more p q xs more)
+later : (h : List Entry) (author : ℕ) (event : Event) → next h ≤ next (and_entry h author event)
+later h author event = let grown = next_push h (record { author = author; event = event }) in omega arith
+
+tablets_same : (h : List Entry) (author : ℕ) (event : Event) → IsStill event → tablets (and_entry h author event) ≡ tablets h
+tablets_same h author event s = ap (λ (p : Places). p.tablets) (places_push h (record { author = author; event = event }) ∙ s.places_stay (places h))
+
+-- an event that leaves the schema and the tablets, with the open transactions that are active then
+from_each : (z : Zero) (os ps : List Opened) (author : ℕ) (event : Event) → IsKept z os → IsStill event → IsLegal z.groups (and_entry z.history author event) → active (and_entry z.history author event) ≡ map started ps → AreApart (λ (o : Opened). o.sid) ps → AllByRecursion (IsOpened (and_entry z.history author event)) ps → IsKept (and_then z author event) ps
+from_each z os ps author event k s legal active_are apart each = record {
+  legal = legal;
+  idle = subst (λ (ts : List Place). AllByRecursion (λ (t : Place). t.phase ≡ Idle) ts) (sym (tablets_same z.history author event s)) k.idle;
+  strings = subst (λ (ds : List PredDef). AllByRecursion IsString ds) (sym (schema_same z.history author event s)) k.strings;
+  active_are = active_are;
+  apart = apart;
+  each = each;
+}
+
+-- with transactions that were open before
+still_kept : (z : Zero) (os ps : List Opened) (author : ℕ) (event : Event) → IsKept z os → IsStill event → IsLegal z.groups (and_entry z.history author event) → active (and_entry z.history author event) ≡ map started ps → AreApart (λ (o : Opened). o.sid) ps → AllByRecursion (IsOpened z.history) ps → IsKept (and_then z author event) ps
+still_kept z os ps author event k s legal active_are apart each =
+    from_each z os ps author event k s legal active_are apart
+    (all_from (IsOpened z.history) (IsOpened (and_entry z.history author event)) (λ o. opened_alike z.history (and_entry z.history author event) o (later z.history author event) (schema_same z.history author event s)) ps each)
+
+-- ---- the starts of open transactions
+
+starts_are : (os : List Opened) → starts_of (map started os) ≡ map (λ (o : Opened). o.start) os
+starts_are [] = refl
+starts_are (o ∷ os) = ap (λ (l : List ℕ). o.start ∷ l) (starts_are os)
+
+pub starts_of_open : (z : Zero) (os : List Opened) → IsKept z os → starts_of (active z.history) ≡ map (λ (o : Opened). o.start) os
+starts_of_open z os k = ap starts_of k.active_are ∙ starts_are os
+
+pub starts_apart : (z : Zero) (os : List Opened) → IsKept z os → AreApart (λ (o : Opened). o.start) os
+starts_apart z os k =
+    apart_ascending (λ (o : Opened). o.start) (line z.history) os
+    (subst (λ (xs : List ℕ). oracle.Ascends (line z.history) xs) (starts_of_open z os k) (line_stays_below z.groups z.history k.legal).starts)
+
+-- ---- the schema is plain
+
+pub strings_plain : (ds : List PredDef) → AllByRecursion IsString ds → IsPlain ds
+strings_plain [] a = tt
+strings_plain (d ∷ ds) a = (subst IsPlainDefinition (sym a.0) (refl, refl, refl), strings_plain ds a.1)
+
+-- ---- one open transaction among the others
+
+-- an open transaction is active
+active_among : (before after : List Opened) (o : Opened) → is_active_of (map started (before ++ o ∷ after)) o.start 0 ≡ true
+active_among [] after o =
+    let same : (o.start == o.start) ≡ true = grind (arith, common_steps) in
+    rw same refl
+active_among (p ∷ before) after o = or_true ((p.start == o.start) && (0 == 0)) (active_among before after o)
   where
-    by : (b : Bool) → p x ≡ b → (list_any p xs ≡ true → list_any q xs ≡ true) → (q x || list_any q xs) ≡ true
-    by true e rest = left_or (q x) (list_any q xs) (more x e)
-    by false e rest = right (q x) (rest (sym (ap (λ (b : Bool). b || list_any p xs) e) ∙ h))
-      where
-        right : (a : Bool) → list_any q xs ≡ true → (a || list_any q xs) ≡ true
-        right true k = refl
-        right false k = k
+    or_true : (v : Bool) {w : Bool} → w ≡ true → (v || w) ≡ true
+    or_true true e = refl
+    or_true false e = e
 
-pushed : {A : Type 0} (p : A → Bool) (xs : List A) (x : A) → list_all p xs ≡ true → p x ≡ true → list_all p (xs ++ x ∷ []) ≡ true
-pushed p xs x h k = list_all-append p xs (x ∷ []) ∙ joined (list_all p xs) (p x && true) h (joined (p x) true k refl)
+pub active_here : (z : Zero) (os before after : List Opened) (o : Opened) → IsKept z os → os ≡ before ++ o ∷ after → is_active_of (active z.history) o.start 0 ≡ true
+active_here z os before after o k e =
+    subst (λ (starts : List Started). is_active_of starts o.start 0 ≡ true) (sym (k.active_are ∙ ap (map started) e)) (active_among before after o)
 
--- the parts of what is kept
-pub kept_parts : (next : ℕ) (alters : List Declared) (commits : List Committed) (session : Option Opened) → IsKept next alters commits session → (alters_fit alters next ≡ true) × (commits_fit alters commits ≡ true) × (session_fits alters next session ≡ true)
-kept_parts next alters commits session h =
-    let first = and_parts (alters_fit alters next) (commits_fit alters commits && session_fits alters next session) h in
-    let rest = and_parts (commits_fit alters commits) (session_fits alters next session) first.1 in
-    (first.0, rest.0, rest.1)
+pub opened_here : (z : Zero) (os before after : List Opened) (o : Opened) → IsKept z os → os ≡ before ++ o ∷ after → IsOpened z.history o
+opened_here z os before after o k e = (all_around (IsOpened z.history) before after o (subst (λ (l : List Opened). AllByRecursion (IsOpened z.history) l) e k.each)).1
 
-kept_of : (next : ℕ) (alters : List Declared) (commits : List Committed) (session : Option Opened) → alters_fit alters next ≡ true → commits_fit alters commits ≡ true → session_fits alters next session ≡ true → IsKept next alters commits session
-kept_of next alters commits session a b c = joined (alters_fit alters next) (commits_fit alters commits && session_fits alters next session) a (joined (commits_fit alters commits) (session_fits alters next session) b c)
+-- the transaction with a start ends
+pub record Ends (event : Event) (start : ℕ) : Type 0 where
+  pub still : IsStill event
+  pub ends : (starts : List Started) (author : ℕ) → active_after starts author event ≡ ended starts start
 
--- the parts of an open session
-pub session_parts : (next : ℕ) (alters : List Declared) (opened : Opened) → session_fits alters next (Some opened) ≡ true → (nat_lt opened.start next ≡ true) × (list_all (λ a. nat_le a.ts opened.start) alters ≡ true) × (are_declared_by alters opened.start opened.own ≡ true)
-session_parts next alters opened h =
-    let first = and_parts (nat_lt opened.start next) (list_all (λ a. nat_le a.ts opened.start) alters && are_declared_by alters opened.start opened.own) h in
-    let rest = and_parts (list_all (λ a. nat_le a.ts opened.start) alters) (are_declared_by alters opened.start opened.own) first.1 in
-    (first.0, rest.0, rest.1)
+pub ended_kept : (z : Zero) (os before after : List Opened) (o : Opened) (author : ℕ) (event : Event) → IsKept z os → os ≡ before ++ o ∷ after → Ends event o.start → IsLegal z.groups (and_entry z.history author event) → IsKept (and_then z author event) (before ++ after)
+ended_kept z os before after o author event k e ends legal =
+    let apart = subst (λ (l : List Opened). AreApart (λ (p : Opened). p.sid) l) e k.apart in
+    let each = all_around (IsOpened z.history) before after o (subst (λ (l : List Opened). AllByRecursion (IsOpened z.history) l) e k.each) in
+    let starts = subst (λ (l : List Opened). AreApart (λ (p : Opened). p.start) l) e (starts_apart z os k) in
+    let left : ended (map started os) o.start ≡ map started (before ++ after) = ap (λ (l : List Opened). ended (map started l) o.start) e ∙ without started (λ (s : Started). s.start) before after o starts in
+    still_kept z os (before ++ after) author event k ends.still legal
+    (active_push z.history (record { author = author; event = event }) ∙ (ends.ends (active z.history) author ∙ (ap (λ (l : List Started). ended l o.start) k.active_are ∙ left)))
+    (apart_without (λ (p : Opened). p.sid) before after o apart)
+    (all_joined (IsOpened z.history) before after each.0 each.2)
 
--- a larger next timestamp
-later_alters : (next more : ℕ) (alters : List Declared) → next ≤ more → alters_fit alters next ≡ true → alters_fit alters more ≡ true
-later_alters next more alters le h = all_more (λ (a : Declared). nat_lt a.ts next) (λ (a : Declared). nat_lt a.ts more) alters (λ a k. later a.ts k) h
+-- nothing happens
+pub look_kept : (z : Zero) (os : List Opened) (author : ℕ) → IsKept z os → IsLegal z.groups (and_entry z.history author Look) → IsKept (and_then z author Look) os
+look_kept z os author k legal =
+    still_kept z os os author Look k (record { schema_stays = λ w. refl; places_stay = λ s. refl }) legal (active_push z.history (record { author = author; event = Look }) ∙ k.active_are) k.apart k.each
+
+-- a transaction begins
+pub begun_kept : (z : Zero) (os : List Opened) (o : Opened) → IsKept z os → IsLegal z.groups (and_entry z.history 0 (Begin o.start)) → AllByRecursion (λ p. p.sid ≢ o.sid) os → IsOpened (and_entry z.history 0 (Begin o.start)) o → IsKept (and_then z 0 (Begin o.start)) (os ++ o ∷ [])
+begun_kept z os o k legal other is =
+    from_each z os (os ++ o ∷ []) 0 (Begin o.start) k (record { schema_stays = λ w. refl; places_stay = λ s. refl }) legal
+    (active_push z.history (record { author = 0; event = Begin o.start }) ∙ (ap (λ (l : List Started). l ++ started o ∷ []) k.active_are ∙ sym (map-append started os (o ∷ []))))
+    (apart_push (λ (p : Opened). p.sid) os o k.apart other)
+    (all_push (IsOpened (and_entry z.history 0 (Begin o.start))) os o (all_from (IsOpened z.history) (IsOpened (and_entry z.history 0 (Begin o.start))) (λ p. opened_alike z.history (and_entry z.history 0 (Begin o.start)) p (later z.history 0 (Begin o.start)) (schema_same z.history 0 (Begin o.start) (record { schema_stays = λ w. refl; places_stay = λ s. refl }))) os k.each) is)
+
+-- what a begin hands out opens a transaction
+pub opened_kept : (z w : Zero) (os : List Opened) (o : Opened) (author : ℕ) → IsKept z os → author ≡ 0 → w ≡ and_then z author (Begin (next z.history)) → IsLegal w.groups w.history → o.start ≡ next z.history → arc_value o.schema ≡ schema z.history → o.own ≡ [] → o.slip ≡ 0 → AllByRecursion (λ p. p.sid ≢ o.sid) os → IsKept w (os ++ o ∷ [])
+opened_kept z w os o author k author_is is legal start schema_is own slip other =
+    let back : next z.history ≡ o.start = sym start in
+    let e : w ≡ and_then z 0 (Begin o.start) = is ∙ (λ i. and_then z (author_is i) (Begin (back i))) in
+    let grown = next_push z.history (record { author = 0; event = Begin o.start }) in
+    subst (λ (y : Zero). IsKept y (os ++ o ∷ [])) (sym e)
+    (begun_kept z os o k (subst (λ (y : Zero). IsLegal y.groups y.history) e legal) other (record {
+      drawn = omega (arith, start);
+      schema_is = schema_is ∙ sym (schema_same z.history 0 (Begin o.start) (record { schema_stays = λ w. refl; places_stay = λ s. refl }));
+      fitting = subst (AreFitting (schema (and_entry z.history 0 (Begin o.start)))) (sym own) tt;
+      author = slip;
+    }))
+
+-- a transaction's own changes grow
+pub changed_kept : (z : Zero) (os before after : List Opened) (o p : Opened) → IsKept z os → os ≡ before ++ o ∷ after → p.sid ≡ o.sid → p.start ≡ o.start → IsOpened z.history p → IsKept z (before ++ p ∷ after)
+changed_kept z os before after o p k e sid start is =
+    let each = all_around (IsOpened z.history) before after o (subst (λ (l : List Opened). AllByRecursion (IsOpened z.history) l) e k.each) in
+    record {
+      legal = k.legal;
+      idle = k.idle;
+      strings = k.strings;
+      active_are = k.active_are ∙ (ap (map started) e ∙ sym (same before));
+      apart = apart_with (λ (q : Opened). q.sid) before after o p sid (subst (λ (l : List Opened). AreApart (λ (q : Opened). q.sid) l) e k.apart);
+      each = all_joined (IsOpened z.history) before (p ∷ after) each.0 (is, each.2);
+    }
   where
-    later : (ts : ℕ) → nat_lt ts next ≡ true → nat_lt ts more ≡ true
-    later ts k = grind (arith, nat_tests)
+    one : started p ≡ started o
+    one = λ i. record { start = start i; author = 0 }
 
--- a larger timestamp, or one more alter
-declared_later : (alters : List Declared) (ts more : ℕ) (name : List ℕ) → ts ≤ more → is_declared_by alters ts name ≡ true → is_declared_by alters more name ≡ true
-declared_later alters ts more name le h = any_more (λ (a : Declared). nat_le a.ts ts && bytes_eq a.name name) (λ (a : Declared). nat_le a.ts more && bytes_eq a.name name) alters step h
+    same : (front : List Opened) → map started (front ++ p ∷ after) ≡ map started (front ++ o ∷ after)
+    same [] = ap (λ (s : Started). s ∷ map started after) one
+    same (q ∷ front) = ap (λ (l : List Started). started q ∷ l) (same front)
+
+-- ---- an alter
+
+with_strings : (ds : List PredDef) (d : PredDef) → IsString d → AllByRecursion IsString ds → AllByRecursion IsString (with_definition ds d)
+with_strings ds d is a = by (is_declared ds d.name)
   where
-    wider : (n : ℕ) → nat_le n ts ≡ true → nat_le n more ≡ true
-    wider n k = grind (arith, nat_tests)
+    replaced_strings : (ds : List PredDef) → AllByRecursion IsString ds → AllByRecursion IsString (map (replaced d) ds)
+    replaced_strings [] a = tt
+    replaced_strings (e ∷ ds) a = (elim (is_named d.name e) as (λ b. IsString (cond b d e)) [ true ↦ is | false ↦ a.0 ], replaced_strings ds a.1)
 
-    step : (a : Declared) → (nat_le a.ts ts && bytes_eq a.name name) ≡ true → (nat_le a.ts more && bytes_eq a.name name) ≡ true
-    step a k = let parts = and_parts (nat_le a.ts ts) (bytes_eq a.name name) k in joined (nat_le a.ts more) (bytes_eq a.name name) (wider a.ts parts.0) parts.1
+    by : (v : Bool) → AllByRecursion IsString (cond v (map (replaced d) ds) (ds ++ d ∷ []))
+    by true = replaced_strings ds a
+    by false = all_push IsString ds d a is
 
-facts_later : (alters : List Declared) (ts more : ℕ) (facts : List Fact) → ts ≤ more → are_declared_by alters ts facts ≡ true → are_declared_by alters more facts ≡ true
-facts_later alters ts more facts le h = all_more (λ (f : Fact). is_declared_by alters ts f.name) (λ (f : Fact). is_declared_by alters more f.name) facts (λ f k. declared_later alters ts more f.name le k) h
-
-declared_among : (alters : List Declared) (a : Declared) (ts : ℕ) (name : List ℕ) → is_declared_by alters ts name ≡ true → is_declared_by (alters ++ a ∷ []) ts name ≡ true
-declared_among alters a ts name h = list_any-append (λ b. nat_le b.ts ts && bytes_eq b.name name) alters (a ∷ []) ∙ left_or (is_declared_by alters ts name) _ h
-
-commits_among : (alters : List Declared) (a : Declared) (commits : List Committed) → commits_fit alters commits ≡ true → commits_fit (alters ++ a ∷ []) commits ≡ true
-commits_among alters a commits h = all_more (λ (c : Committed). are_declared_by alters c.ts c.facts) (λ (c : Committed). are_declared_by (alters ++ a ∷ []) c.ts c.facts) commits (λ c k. all_more (λ (f : Fact). is_declared_by alters c.ts f.name) (λ (f : Fact). is_declared_by (alters ++ a ∷ []) c.ts f.name) c.facts (λ f. declared_among alters a c.ts f.name) k) h
-
-lt_test : (m n : ℕ) → m < n → nat_lt m n ≡ true
-lt_test m n h = grind (arith, nat_tests)
-
--- ---- steps
-
-pub kept_alter : (next : ℕ) (alters : List Declared) (commits : List Committed) (a : Declared) → a.ts ≡ next + 1 → IsKept next alters commits None → IsKept (next + 2) (alters ++ a ∷ []) commits None
-kept_alter next alters commits a at h =
-    let parts = kept_parts next alters commits None h in
-    let last : nat_lt a.ts (next + 2) ≡ true = lt_test a.ts (next + 2) (omega arith) in
-    kept_of (next + 2) (alters ++ a ∷ []) commits None (pushed (λ (b : Declared). nat_lt b.ts (next + 2)) alters a (later_alters next (next + 2) alters (omega arith) parts.0) last) (commits_among alters a commits parts.1) refl
-
-pub kept_begin : (next : ℕ) (alters : List Declared) (commits : List Committed) (opened : Opened) → opened.start ≡ next → opened.own ≡ [] → IsKept next alters commits None → IsKept (next + 1) alters commits (Some opened)
-kept_begin next alters commits opened at none h =
-    let parts = kept_parts next alters commits None h in
-    let below : nat_lt opened.start (next + 1) ≡ true = lt_test opened.start (next + 1) (omega arith) in
-    kept_of (next + 1) alters commits (Some opened) (later_alters next (next + 1) alters (omega arith) parts.0) parts.1
-    (joined (nat_lt opened.start (next + 1)) _ below
-    (joined (list_all (λ a. nat_le a.ts opened.start) alters) _ (all_more (λ (a : Declared). nat_lt a.ts next) (λ (a : Declared). nat_le a.ts opened.start) alters (λ a k. before a.ts k) parts.0)
-    (ap (are_declared_by alters opened.start) none)))
+fresh_idle : (ts : List Place) (fs : List Tablet) → AllByRecursion (λ (t : Place). t.phase ≡ Idle) ts → AllByRecursion (λ (t : Place). t.phase ≡ Idle) (ts ++ map fresh_place fs)
+fresh_idle ts fs a = all_joined (λ (t : Place). t.phase ≡ Idle) ts (map fresh_place fs) a (rest fs)
   where
-    before : (ts : ℕ) → nat_lt ts next ≡ true → nat_le ts opened.start ≡ true
-    before ts k = grind (arith, nat_tests)
+    rest : (fs : List Tablet) → AllByRecursion (λ (t : Place). t.phase ≡ Idle) (map fresh_place fs)
+    rest [] = tt
+    rest (f ∷ fs) = (refl, rest fs)
 
-pub kept_closed : (next : ℕ) (alters : List Declared) (commits : List Committed) (session : Option Opened) → IsKept next alters commits session → IsKept next alters commits None
-kept_closed next alters commits session h = let parts = kept_parts next alters commits session h in kept_of next alters commits None parts.0 parts.1 refl
+none_left : (os : List Opened) → map started os ≡ [] → os ≡ []
+none_left [] e = refl
+none_left (o ∷ os) e = absurd (cc)
 
-pub kept_commit : (next : ℕ) (alters : List Declared) (commits : List Committed) (opened : Opened) (c : Committed) → c.ts ≡ next → c.facts ≡ opened.own → IsKept next alters commits (Some opened) → IsKept (next + 1) alters (commits ++ c ∷ []) None
-kept_commit next alters commits opened c at own h =
-    let parts = kept_parts next alters commits (Some opened) h in
-    let session = session_parts next alters opened parts.2 in
-    let le : opened.start ≤ c.ts = let lt : nat_lt opened.start next ≡ true = session.0 in grind (arith, nat_tests) in
-    let fits = facts_later alters opened.start c.ts opened.own le session.2 in
-    kept_of (next + 1) alters (commits ++ c ∷ []) None (later_alters next (next + 1) alters (omega arith) parts.0)
-    (pushed (λ (d : Committed). are_declared_by alters d.ts d.facts) commits c parts.1 (subst (λ (l : List Fact). are_declared_by alters c.ts l ≡ true) (sym own) fits)) refl
+pub none_open : (z : Zero) (os : List Opened) → IsKept z os → active z.history ≡ [] → os ≡ []
+none_open z os k e = none_left os (sym k.active_are ∙ e)
 
--- a name that is declared now was declared when the session began
-declared_before : (alters : List Declared) (start : ℕ) (name : List ℕ) → list_all (λ a. nat_le a.ts start) alters ≡ true → list_any (λ a. bytes_eq a.name name) alters ≡ true → is_declared_by alters start name ≡ true
-declared_before [] start name h k = absurd (false≢true k)
-declared_before (a ∷ alters) start name h k =
-    let parts = and_parts (nat_le a.ts start) (list_all (λ b. nat_le b.ts start) alters) h in
-    ap (λ (b : Bool). (b && bytes_eq a.name name) || is_declared_by alters start name) parts.0 ∙ by (bytes_eq a.name name) k (declared_before alters start name parts.1)
-  where
-    by : (b : Bool) → (b || list_any (λ d. bytes_eq d.name name) alters) ≡ true → (list_any (λ d. bytes_eq d.name name) alters ≡ true → is_declared_by alters start name ≡ true) → (b || is_declared_by alters start name) ≡ true
-    by true e rest = refl
-    by false e rest = rest e
-
-pub kept_mutate : (next : ℕ) (alters : List Declared) (commits : List Committed) (opened after : Opened) (f : Fact) → after.start ≡ opened.start → after.own ≡ opened.own ++ f ∷ [] → list_any (λ a. bytes_eq a.name f.name) alters ≡ true → IsKept next alters commits (Some opened) → IsKept next alters commits (Some after)
-kept_mutate next alters commits opened after f start own declared h =
-    let parts = kept_parts next alters commits (Some opened) h in
-    let session = session_parts next alters opened parts.2 in
-    let mine : is_declared_by alters opened.start f.name ≡ true = declared_before alters opened.start f.name session.1 declared in
-    let all = pushed (λ (g : Fact). is_declared_by alters opened.start g.name) opened.own f session.2 mine in
-    kept_of next alters commits (Some after) parts.0 parts.1
-    (joined (nat_lt after.start next) _ (ap (λ (n : ℕ). nat_lt n next) start ∙ session.0)
-    (joined (list_all (λ a. nat_le a.ts after.start) alters) _ (ap (λ (n : ℕ). list_all (λ (a : Declared). nat_le a.ts n) alters) start ∙ session.1)
-    (ap (are_declared_by alters after.start) own ∙ ap (λ (n : ℕ). are_declared_by alters n (opened.own ++ f ∷ [])) start ∙ all)))
-
--- the same, whether the text was added or refused for want of memory
-pub kept_mutate_by : {T E : Type 0} (r : Result T E) (next : ℕ) (alters : List Declared) (commits : List Committed) (opened : Opened) (own : List Fact) (f : Fact) → OnOk r (own ≡ opened.own ++ f ∷ []) → OnErr r (own ≡ opened.own) → list_any (λ a. bytes_eq a.name f.name) alters ≡ true → IsKept next alters commits (Some opened) → IsKept next alters commits (Some (record { start = opened.start; own = own }))
-kept_mutate_by (Ok t) next alters commits opened own f ok err declared h = kept_mutate next alters commits opened (record { start = opened.start; own = own }) f refl ok declared h
-kept_mutate_by (Err e) next alters commits opened own f ok err declared h = subst (λ (l : List Fact). IsKept next alters commits (Some (record { start = opened.start; own = l }))) (sym err) h
+pub altered_kept : (z : Zero) (os : List Opened) (name : List ℕ) (parts : List Part) → IsKept z os → active z.history ≡ [] → IsLegal z.groups (and_entry z.history 0 (alter_of z (string_definition name ∷ []) parts)) → IsKept (and_then z 0 (alter_of z (string_definition name ∷ []) parts)) os
+altered_kept z os name parts k none legal =
+    let newer : List PredDef = string_definition name ∷ [] in
+    let event : Event = alter_of z newer parts in
+    let e : Entry = record { author = 0; event = event } in
+    let no : os ≡ [] = none_open z os k none in
+    let schema_is : schema (and_entry z.history 0 event) ≡ with_definition (schema z.history) (string_definition name) = ap (λ (w : World). w.schema) (world_push z.history e) in
+    let tablets_are : tablets (and_entry z.history 0 event) ≡ tablets z.history ++ map fresh_place (fresh z.groups (tablets z.history) newer) = ap (λ (p : Places). p.tablets) (places_push z.history e) in
+    record {
+      legal = legal;
+      idle = subst (λ (ts : List Place). AllByRecursion (λ (t : Place). t.phase ≡ Idle) ts) (sym tablets_are) (fresh_idle (tablets z.history) (fresh z.groups (tablets z.history) newer) k.idle);
+      strings = subst (λ (ds : List PredDef). AllByRecursion IsString ds) (sym schema_is) (with_strings (schema z.history) (string_definition name) refl k.strings);
+      active_are = active_push z.history e ∙ k.active_are;
+      apart = k.apart;
+      each = subst (λ (l : List Opened). AllByRecursion (IsOpened (and_entry z.history 0 event)) l) (sym no) tt;
+    }

@@ -7,8 +7,7 @@ use Rattle.dg_wire.specs.declared.request.Request.{Request}
 use Rattle.dg_wire.specs.declared.request.Request.TheVariants as requests
 use Rattle.dg_node.specs.Machine.{Machine, empty}
 use Rattle.dg_node.specs.Alters.{altered, string_definition, Alters}
-use Rattle.dg_node.specs.Transactions.{Begins, Commits}
-use Rattle.dg_node.specs.Mutations.{mutated, text_set, Mutates}
+use Rattle.dg_node.specs.Mutations.{mutated, Mutates}
 use Rattle.dg_node.specs.Queries.{queried, Queries}
 use Rattle.dg_node.specs.Steps.{Outcome, Step, Steps, HadMemory, IsDetermined}
 use Rattle.dg_node.proofs.ScanLemmas.{declares_one, sets_one, asks_one}
@@ -22,44 +21,33 @@ Same p q a b = ◌≡◌ {A = Pair} (p, a) (q, b)
 
 alters_one : (old : Machine) (body : List ℕ) (p q : Reply) (a b : Machine) → Alters old body p a → Alters old body q b → Same p q a b
 alters_one old body p q a b (inl x) (inl y) = sym x.outcome ∙ ap (λ (n : List ℕ). altered old (string_definition n ∷ [])) (declares_one body x.name y.name x.form y.form) ∙ y.outcome
-alters_one old body p q a b (inl x) (inr y) = absurd (elim y.other [ inl opened ↦ opened x.closed | inr none ↦ none x.name x.form ])
-alters_one old body p q a b (inr x) (inl y) = absurd (elim x.other [ inl opened ↦ opened y.closed | inr none ↦ none y.name y.form ])
+alters_one old body p q a b (inl x) (inr y) = absurd (y.other x.name x.form)
+alters_one old body p q a b (inr x) (inl y) = absurd (x.other y.name y.form)
 alters_one old body p q a b (inr x) (inr y) = sym x.outcome ∙ y.outcome
-
-begins_one : (old : Machine) (sid : ℕ) (p q : Reply) (a b : Machine) → Begins old sid p a → Begins old sid q b → Same p q a b
-begins_one old sid p q a b (inl x) (inl y) = sym x.1 ∙ y.1
-begins_one old sid p q a b (inl x) (inr y) = absurd (y.0 x.0)
-begins_one old sid p q a b (inr x) (inl y) = absurd (x.0 y.0)
-begins_one old sid p q a b (inr x) (inr y) = sym x.1 ∙ y.1
-
-commits_one : (old : Machine) (sid : ℕ) (p q : Reply) (a b : Machine) → Commits old sid p a → Commits old sid q b → Same p q a b
-commits_one old sid p q a b (inl x) (inl y) = sym x.1 ∙ y.1
-commits_one old sid p q a b (inl x) (inr y) = absurd (y.0 x.0)
-commits_one old sid p q a b (inr x) (inl y) = absurd (x.0 y.0)
-commits_one old sid p q a b (inr x) (inr y) = sym x.1 ∙ y.1
 
 mutates_one : (old : Machine) (sid : ℕ) (body : List ℕ) (p q : Reply) (a b : Machine) → Mutates old sid body p a → Mutates old sid body q b → Same p q a b
 mutates_one old sid body p q a b (inl x) (inl y) =
-    let same = sets_one body x.uid y.uid x.name y.name x.value y.value x.sets.form y.sets.form in
-    sym x.outcome ∙ ap (λ (u : ℕ). mutated old sid (text_set u x.name x.value)) same.0 ∙ ap (λ (n : List ℕ). mutated old sid (text_set y.uid n x.value)) same.1 ∙ ap (λ (v : List ℕ). mutated old sid (text_set y.uid y.name v)) same.2 ∙ y.outcome
-mutates_one old sid body p q a b (inl x) (inr y) = absurd (elim y.other [ inl other ↦ other x.session | inr none ↦ none x.uid x.name x.value x.sets ])
-mutates_one old sid body p q a b (inr x) (inl y) = absurd (elim x.other [ inl other ↦ other y.session | inr none ↦ none y.uid y.name y.value y.sets ])
+    let same = sets_one body x.uid y.uid x.name y.name x.value y.value x.form y.form in
+    sym x.outcome ∙ ap (λ (u : ℕ). mutated old sid u x.name x.value) same.0 ∙ ap (λ (n : List ℕ). mutated old sid y.uid n x.value) same.1 ∙ ap (λ (v : List ℕ). mutated old sid y.uid y.name v) same.2 ∙ y.outcome
+mutates_one old sid body p q a b (inl x) (inr y) = absurd (y.other x.uid x.name x.value x.form)
+mutates_one old sid body p q a b (inr x) (inl y) = absurd (x.other y.uid y.name y.value y.form)
 mutates_one old sid body p q a b (inr x) (inr y) = sym x.outcome ∙ y.outcome
 
 queries_one : (old : Machine) (sid : ℕ) (body : List ℕ) (p q : Reply) (a b : Machine) → Queries old sid body p a → Queries old sid body q b → Same p q a b
 queries_one old sid body p q a b (inl x) (inl y) =
     let same = asks_one body x.uid y.uid x.name y.name x.form y.form in
     sym x.outcome ∙ ap (λ (u : ℕ). queried old sid u x.name) same.0 ∙ ap (queried old sid y.uid) same.1 ∙ y.outcome
-queries_one old sid body p q a b (inl x) (inr y) = absurd (elim y.other [ inl other ↦ other x.session | inr none ↦ none x.uid x.name x.form ])
-queries_one old sid body p q a b (inr x) (inl y) = absurd (elim x.other [ inl other ↦ other y.session | inr none ↦ none y.uid y.name y.form ])
+queries_one old sid body p q a b (inl x) (inr y) = absurd (y.other x.uid x.name x.form)
+queries_one old sid body p q a b (inr x) (inl y) = absurd (x.other y.uid y.name y.form)
 queries_one old sid body p q a b (inr x) (inr y) = sym x.outcome ∙ y.outcome
 
 pub outcome_one : (old : Machine) (request : Request) (p q : Reply) (a b : Machine) → Outcome old request p a → Outcome old request q b → Same p q a b
 outcome_one old (requests.Alter body) p q a b x y = alters_one old body p q a b x y
-outcome_one old (requests.Begin sid) p q a b x y = begins_one old sid p q a b x y
+outcome_one old (requests.Begin sid) p q a b x y = sym x ∙ y
 outcome_one old (requests.Mutate sid body) p q a b x y = mutates_one old sid body p q a b x y
 outcome_one old (requests.Query sid body) p q a b x y = queries_one old sid body p q a b x y
-outcome_one old (requests.Commit sid) p q a b x y = commits_one old sid p q a b x y
+outcome_one old (requests.Commit sid) p q a b x y = sym x ∙ y
+outcome_one old (requests.Discard sid) p q a b x y = sym x ∙ y
 outcome_one old request p q a b x y = sym x ∙ y
 
 step_one : (old : Machine) (request : Request) (p q : Reply) (a b : Machine) → p ≢ replies.Refused refusals.Memory → q ≢ replies.Refused refusals.Memory → Step old request p a → Step old request q b → Same p q a b

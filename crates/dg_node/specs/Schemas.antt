@@ -16,7 +16,3 @@ after_alter ts schema alter = if nat_le alter.ts ts then with_definitions schema
 -- the schema at a timestamp: the empty one after the alters at or below it
 abbrev pub schema_at : List Alter → ℕ → List PredDef
 schema_at alters ts = fold (after_alter ts) [] alters
-
--- the schema after all alters
-abbrev pub present_schema : List Alter → List PredDef
-present_schema alters = fold (λ schema alter. with_definitions schema alter.definitions) [] alters

@@ -1,5 +1,5 @@
 -- The steps of the machine, and its runs.
-use Rattle.std.specs.Prelude.{◌≡◌, ◌≢◌, ℕ, ◌+◌, ◌⊎◌, List, [], ◌∷◌}
+use Rattle.std.specs.Prelude.{◌≡◌, ◌≢◌, ℕ, ◌+◌, ◌⊎◌, ⊤, List, [], ◌∷◌}
 use Rattle.std.specs.List.{AllByRecursion}
 use Rattle.dg_wire.specs.declared.refusal.Refusal.TheVariants as refusals
 use Rattle.dg_wire.specs.declared.reply.Reply.{Reply}
@@ -9,18 +9,28 @@ use Rattle.dg_wire.specs.declared.request.Request.TheVariants as requests
 use Rattle.dg_node.specs.Machine.{Machine, empty, drawn}
 use Rattle.dg_node.specs.Replying.{IsUnbuilt}
 use Rattle.dg_node.specs.Alters.{Alters}
-use Rattle.dg_node.specs.Transactions.{Begins, Commits}
+use Rattle.dg_node.specs.Transactions.{begun, committed, discarded, HasChanges}
 use Rattle.dg_node.specs.Mutations.{Mutates}
 use Rattle.dg_node.specs.Queries.{Queries}
 
 -- what a request is answered and leaves, where there is memory
 abbrev pub Outcome : Machine → Request → Reply → Machine → Type 0
 Outcome old (requests.Alter body) reply new = Alters old body reply new
-Outcome old (requests.Begin sid) reply new = Begins old sid reply new
+Outcome old (requests.Begin sid) reply new = begun old sid ≡ (reply, new)
 Outcome old (requests.Mutate sid body) reply new = Mutates old sid body reply new
 Outcome old (requests.Query sid body) reply new = Queries old sid body reply new
-Outcome old (requests.Commit sid) reply new = Commits old sid reply new
+Outcome old (requests.Commit sid) reply new = committed old sid ≡ (reply, new)
+Outcome old (requests.Discard sid) reply new = discarded old sid ≡ (reply, new)
 Outcome old request reply new = IsUnbuilt old reply new
+
+-- The request's calls take memory. A discard, a commit of nothing and a verb that isn't built always have their answer.
+abbrev pub TakesMemory : Machine → Request → Type 0
+TakesMemory old (requests.Alter body) = ⊤
+TakesMemory old (requests.Begin sid) = ⊤
+TakesMemory old (requests.Mutate sid body) = ⊤
+TakesMemory old (requests.Query sid body) = ⊤
+TakesMemory old (requests.Commit sid) = HasChanges old sid
+TakesMemory old request = ⊥
 
 -- what a request leaves where memory is wanting: a begin may have drawn one timestamp, which isn't given back
 abbrev pub Spares : Request → Machine → Machine → Type 0
@@ -29,6 +39,7 @@ Spares request old new = new ≡ old
 
 -- memory is wanting
 pub record WantsMemory (old : Machine) (request : Request) (reply : Reply) (new : Machine) : Type 0 where
+  pub takes : TakesMemory old request
   pub free : reply ≡ replies.Refused refusals.Memory
   pub spared : Spares request old new
 

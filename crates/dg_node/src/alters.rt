@@ -1,60 +1,71 @@
 // What `alter` does.
-ghost use Rattle.std.specs.Prelude.{◌≡◌, IfOk};
+ghost use Rattle.std.specs.Prelude.{◌≡◌, ◌∷◌, [], IfOk};
 ghost use Rattle.std.specs.Str.{IsUtf8};
+ghost use Rattle.dg_node.specs.Alters.{string_definition};
 
 use crate::bodies::declared_by;
-use crate::machine::{Declared, PlainMachine, TIMESTAMP_END};
+use crate::engine::Engine;
 use crate::step::unbuilt;
-use dg_values::{Mem, OutOfMemory, Str};
+use dg_schema::{PredDef, Schema};
+use dg_values::{Kind, List, Mem, OutOfMemory, Str};
 use dg_wire::{Refusal, Reply};
+use dg_zero::{Slip, ZeroFault};
 use std::alloc::Global;
 use std::str;
 
-impl PlainMachine {
-    ghost use Rattle.std.specs.Prelude.{◌≡◌, ◌≢◌, ◌⊎◌, ◌∷◌, [], ℕ, List, IfOk, IfSome, IfNone, OnErr, None, true};
-    ghost use Rattle.dg_node.specs.Bodies.{Declares, is_predicate};
+impl Engine {
+    ghost use Rattle.std.specs.Prelude.{◌≡◌, ◌∷◌, [], IfOk, OnErr, true};
+    ghost use Rattle.dg_node.specs.Bodies.{is_predicate};
     ghost use Rattle.dg_node.specs.Alters.{Alters, altered, string_definition};
-    ghost use Rattle.dg_node.specs.State.{state_of};
+    ghost use Rattle.dg_node.specs.State.{Leads, Stays};
 
-    /// Declares one string predicate, where the form is built.
+    /// Declares one string predicate, where the form is built. After an error nothing has changed.
     pub fn try_alter(&mut self, alloc: Global, body: &[u8]) -> Mem<Reply>
-        ensures ok { IfOk result (λ reply. Alters (state_of self.old) body.now reply (state_of self.new)) }
-        ensures err { OnErr result (self.new ≡ self.old) }
+        ensures ok { IfOk result (λ reply. Leads self.old (λ m n. Alters m body.now reply n) self.new) }
+        ensures err { OnErr result (Stays self.old self.new) }
     {
-        match self.alter_of(body) {
+        match declared_by(body) {
             Some(name) => self.alter(alloc, name),
             None => Ok(unbuilt()),
         }
     }
 
-    // The predicate that is declared, while no session is open.
-    fn alter_of<'a>(&self, body: &'a [u8]) -> Option<&'a [u8]>
-        ensures found { IfSome result (λ name. ((state_of self.now).sessions ≡ []) × Declares body.now name.now) }
-        ensures none { IfNone result (((state_of self.now).sessions ≢ []) ⊎ ((name : List ℕ) → ¬ Declares body.now name)) }
-    {
-        if self.session.is_some() {
-            return None;
-        }
-        declared_by(body)
-    }
-
-    // Draws two timestamps, and declares the predicate from the second on.
+    // Draws two timestamps, and declares the predicate from the second on, unless a transaction is open.
     fn alter(&mut self, alloc: Global, name: &[u8]) -> Mem<Reply>
         requires name { is_predicate name.now ≡ true }
-        requires closed { self.old.session ≡ None }
-        ensures ok { IfOk result (λ reply. altered (state_of self.old) (string_definition name.now ∷ []) ≡ (reply, state_of self.new)) }
-        ensures err { OnErr result (self.new ≡ self.old) }
+        ensures ok { IfOk result (λ reply. Leads self.old (λ m n. altered m (string_definition name.now ∷ []) ≡ (reply, n)) self.new) }
+        ensures err { OnErr result (Stays self.old self.new) }
     {
-        let start = self.next;
-        if start >= TIMESTAMP_END - 1 {
-            return Ok(Reply::Refused(Refusal::TimestampsSpent { next: start }));
+        let newer = string_schema(alloc, name)?;
+        let slip = Slip::new(alloc, 0)?;
+        match self.zero.alter(slip, &newer, List::new(alloc)) {
+            Ok((start, commit)) => Ok(Reply::Alter { start, commit }),
+            Err(ZeroFault::Pending { start }) => Ok(Reply::Refused(Refusal::Pending { start })),
+            Err(ZeroFault::TimestampsSpent { next }) => {
+                Ok(Reply::Refused(Refusal::TimestampsSpent { next }))
+            }
+            Err(_) => Err(OutOfMemory),
         }
-        let ts = start + 1;
-        let name = text_of(alloc, name)?;
-        self.alters.push(Declared { start, ts, name })?;
-        self.next = start + 2;
-        Ok(Reply::Alter { start, commit: ts })
     }
+}
+
+// The schema of one string predicate.
+fn string_schema(alloc: Global, name: &[u8]) -> Mem<Schema>
+    requires { IsUtf8 name.now }
+    ensures { IfOk result (λ schema. schema ≡ string_definition name.now ∷ []) }
+{
+    Schema::single(
+        alloc,
+        PredDef {
+            name: text_of(alloc, name)?,
+            kind: Kind::Text,
+            list: false,
+            tokens: List::new(alloc),
+            reverse: false,
+            count: false,
+            upsert: false,
+        },
+    )
 }
 
 /// Bytes that are a text.

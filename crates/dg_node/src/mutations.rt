@@ -1,87 +1,88 @@
 // What `mutate` does.
-ghost use Rattle.std.specs.Prelude.{◌≡◌};
-ghost use Rattle.std.specs.List.{list_any};
-ghost use Rattle.std.specs.Str.{bytes_eq};
+ghost use Rattle.std.specs.Prelude.{◌≡◌, IfOk};
+ghost use Rattle.std.specs.Str.{IsUtf8};
+ghost use Rattle.dg_schema.specs.Definitions.{is_declared};
+ghost use Rattle.dg_node.specs.Mutations.{text_set};
 
 use crate::alters::text_of;
 use crate::bodies::set_by;
-use crate::facts::Fact;
-use crate::machine::{Declared, PlainMachine};
+use crate::engine::{Engine, no_session};
 use crate::step::unbuilt;
-use crate::transactions::SESSION;
-use dg_values::{List, Mem, OutOfMemory};
-use dg_wire::{Refusal, Reply};
+use dg_graph::{Change, Triple};
+use dg_schema::Schema;
+use dg_values::{List, Mem, OutOfMemory, Posting, Str, Value};
+use dg_wire::Reply;
 use std::alloc::Global;
 
-impl PlainMachine {
-    ghost use Rattle.std.specs.Prelude.{◌≡◌, ℕ, List, IfOk, IfSome, IfNone, OnErr, true};
+impl Engine {
+    ghost use Rattle.std.specs.Prelude.{◌≡◌, ◌==◌, ◌<◌, true, Some, IfOk, IfSome, OnOk, OnErr, length, position, slice_get};
     ghost use Rattle.std.specs.List.{list_all};
+    ghost use Rattle.std.specs.Arc.{arc_value};
+    ghost use Rattle.dg_graph.specs.declared.change.Change.{Change};
+    ghost use Rattle.dg_graph.specs.Graphs.{fits};
+    ghost use Rattle.dg_graph.specs.Changes.{changed};
     ghost use Rattle.dg_wire.specs.Names.{is_name};
     ghost use Rattle.dg_node.specs.Bodies.{is_plain};
-    ghost use Rattle.dg_schema.specs.Definitions.{is_declared};
-    ghost use Rattle.dg_node.specs.Schemas.{present_schema};
-    ghost use Rattle.dg_node.specs.Mutations.{Mutates, SetsDeclared, mutated, text_set};
-    ghost use Rattle.dg_node.specs.State.{state_of};
+    ghost use Rattle.dg_node.specs.Machine.{with_change};
+    ghost use Rattle.dg_node.specs.Mutations.{Mutates, mutated};
+    ghost use Rattle.dg_node.specs.State.{Leads, Stays};
 
-    /// Sets a text in the open transaction, where the session and the form are built.
+    /// Sets a text in an open transaction, where the form is built. After an error nothing has changed.
     pub fn try_mutate(&mut self, alloc: Global, sid: u32, body: &[u8]) -> Mem<Reply>
-        ensures ok { IfOk result (λ reply. Mutates (state_of self.old) sid body.now reply (state_of self.new)) }
-        ensures err { OnErr result (self.new ≡ self.old) }
+        ensures ok { IfOk result (λ reply. Leads self.old (λ m n. Mutates m sid body.now reply n) self.new) }
+        ensures err { OnErr result (Stays self.old self.new) }
     {
-        if sid != SESSION {
-            return Ok(unbuilt());
-        }
-        match self.set_of(body) {
-            Some((uid, name, value)) => self.mutate(alloc, uid, name, value),
+        match set_by(body) {
+            Some((uid, name, value)) => self.mutate(alloc, sid, uid, name, value),
             None => Ok(unbuilt()),
         }
     }
 
-    // What is set, where its predicate is declared.
-    fn set_of<'a>(&self, body: &'a [u8]) -> Option<(u64, &'a [u8], &'a [u8])>
-        ensures found { IfSome result (λ set. SetsDeclared (state_of self.now) body.now set.0 set.1.now set.2.now) }
-        ensures none { IfNone result ((uid : ℕ) (name value : List ℕ) → ¬ SetsDeclared (state_of self.now) body.now uid name value) }
-    {
-        let (uid, name, value) = set_by(body)?;
-        if self.is_declared(name) {
-            Some((uid, name, value))
-        } else {
-            None
-        }
-    }
-
-    fn is_declared(&self, name: &[u8]) -> bool
-        ensures { result ≡ is_declared (present_schema (state_of self.now).alters) name.now }
-    {
-        has_name(self.alters.as_slice(), name)
-    }
-
-    // Adds a text to the open transaction's own.
-    fn mutate(&mut self, alloc: Global, uid: u64, name: &[u8], value: &[u8]) -> Mem<Reply>
+    fn mutate(&mut self, alloc: Global, sid: u32, uid: u64, name: &[u8], value: &[u8]) -> Mem<Reply>
         requires name { is_name name.now ≡ true }
         requires value { list_all is_plain value.now ≡ true }
-        requires declared { is_declared (present_schema (state_of self.old).alters) name.now ≡ true }
-        ensures ok { IfOk result (λ reply. mutated (state_of self.old) SESSION (text_set uid name.now value.now) ≡ (reply, state_of self.new)) }
-        ensures err { OnErr result (self.new ≡ self.old) }
+        ensures ok { IfOk result (λ reply. Leads self.old (λ m n. mutated m sid uid name.now value.now ≡ (reply, n)) self.new) }
+        ensures err { OnErr result (Stays self.old self.new) }
     {
-        let body = List::from_vec(Vec::from_slice(alloc, b"{\"uids\":{}}")?);
-        let name = text_of(alloc, name)?;
-        let value = text_of(alloc, value)?;
-        let Some(mut session) = self.session.take() else {
-            return Ok(Reply::Refused(Refusal::NoSession { sid: SESSION }));
+        let Some(place) = self.place_of(sid) else {
+            return Ok(no_session(sid));
         };
-        let added = session.own.push(Fact { uid, name, value });
-        self.session = Some(session);
-        match added {
-            Ok(()) => Ok(Reply::Mutate { sid: SESSION, body }),
-            Err(_) => Err(OutOfMemory),
+        let name = text_of(alloc, name)?;
+        if !is_declared(&self.sessions[place].schema, name.as_str()) {
+            return Ok(unbuilt());
         }
+        let body = List::from_vec(Vec::from_slice(alloc, b"{\"uids\":{}}")?);
+        let change = text_set(uid, name, text_of(alloc, value)?);
+        self.add(sid, place, change)?;
+        Ok(Reply::Mutate { sid, body })
+    }
+
+    // Adds a change, which fits the schema, to the transaction at a place.
+    fn add(&mut self, sid: u32, place: usize, change: Change) -> Mem<()>
+        requires at { position (λ o. o.sid == sid) self.old.opened ≡ Some place }
+        requires within { place < length self.old.opened }
+        requires fits { IfSome (slice_get self.old.opened place) (λ o. fits (arc_value o.schema) (changed change) ≡ true) }
+        ensures ok { OnOk result (Leads self.old (λ m n. n ≡ with_change m sid change) self.new) }
+        ensures err { OnErr result (Stays self.old self.new) }
+    {
+        Ok(self.sessions[place].own.push(change)?)
     }
 }
 
-// Whether one of these declares the name.
-fn has_name(alters: &[Declared], name: &[u8]) -> bool
-    ensures { result ≡ list_any (λ a. bytes_eq a.name name.now) alters.now }
+// Whether a predicate is declared.
+fn is_declared(schema: &Schema, name: &str) -> bool
+    ensures { result ≡ is_declared schema.now name.now }
 {
-    alters.iter().any(|a| a.name.as_str().as_bytes() == name)
+    schema.lookup(name).is_some()
+}
+
+// A text is set.
+fn text_set(uid: u64, name: Str, value: Str) -> Change
+    ensures { result ≡ text_set uid name value }
+{
+    Change::Set(Triple {
+        s: uid,
+        p: name,
+        o: Posting::Val(Value::Text(value)),
+    })
 }

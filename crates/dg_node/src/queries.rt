@@ -1,87 +1,88 @@
 // What `query` does.
-ghost use Rattle.std.specs.Prelude.{◌≡◌, ◌++◌, IfOk, None, []};
-ghost use Rattle.std.specs.Option.{option_copied};
-ghost use Rattle.dg_node.specs.Plain as plain;
-ghost use Rattle.dg_node.specs.Queries.{answer_text};
+ghost use Rattle.std.specs.Prelude.{◌≡◌, ◌++◌, true, IfOk};
+ghost use Rattle.dg_graph.specs.Graphs.{objects};
+ghost use Rattle.dg_zero.specs.Counters.{active, is_active_of};
+ghost use Rattle.dg_zero.specs.Legal.{IsLegal};
+ghost use Rattle.dg_zero.specs.Worlds.{graph_at};
+ghost use Rattle.dg_node.specs.Kept.{IsOpened};
+ghost use Rattle.dg_node.specs.Queries.{answer_text, node_text};
 
+use crate::alters::text_of;
 use crate::bodies::asked_by;
-use crate::facts::{Fact, last_of};
-use crate::machine::{Committed, PlainMachine};
+use crate::engine::{Engine, Opened, no_session};
 use crate::step::unbuilt;
-use crate::transactions::SESSION;
-use dg_values::{List, Mem, OutOfMemory};
-use dg_wire::{Refusal, Reply};
+use dg_graph::{Snapshot, change_objects};
+use dg_values::{List, Mem, OutOfMemory, Posting, Value};
+use dg_wire::Reply;
+use dg_zero::ZeroState;
 use std::alloc::Global;
 
-impl PlainMachine {
-    ghost use Rattle.std.specs.Prelude.{◌≡◌, IfOk, IfSome, Some};
-    ghost use Rattle.std.specs.Option.{option_copied};
-    ghost use Rattle.dg_node.specs.Queries.{Queries, queried, seen};
-    ghost use Rattle.dg_node.specs.Plain.{objects_of, sessions_of};
-    ghost use Rattle.dg_graph.specs.Graphs.{objects};
-    ghost use Rattle.dg_node.specs.Graphs.{graph_at};
-    ghost use Rattle.dg_node.specs.Plain.{change_of};
-    ghost use Rattle.std.specs.Prelude.{map};
-    ghost use Rattle.dg_node.specs.State.{state_of};
+impl Engine {
+    ghost use Rattle.std.specs.Prelude.{◌≡◌, true, IfOk};
+    ghost use Rattle.dg_node.specs.Bodies.{is_predicate};
+    ghost use Rattle.dg_node.specs.Queries.{Queries, queried};
+    ghost use Rattle.dg_node.specs.State.{Leads};
 
-    /// Answers for one predicate of one node, where the session and the form are built.
+    /// Answers for one predicate of one node, where the form is built.
     pub fn try_query(&self, alloc: Global, sid: u32, body: &[u8]) -> Mem<Reply>
-        ensures { IfOk result (λ reply. Queries (state_of self.now) sid body.now reply (state_of self.now)) }
+        ensures { IfOk result (λ reply. Leads self.now (λ m n. Queries m sid body.now reply n) self.now) }
     {
-        if sid != SESSION {
-            return Ok(unbuilt());
-        }
         match asked_by(body) {
-            Some((uid, name)) => self.query(alloc, uid, name),
+            Some((uid, name)) => self.query(alloc, sid, uid, name),
             None => Ok(unbuilt()),
         }
     }
 
-    fn query(&self, alloc: Global, uid: u64, name: &[u8]) -> Mem<Reply>
-        ensures { IfOk result (λ reply. queried (state_of self.now) SESSION uid name.now ≡ (reply, state_of self.now)) }
+    fn query(&self, alloc: Global, sid: u32, uid: u64, name: &[u8]) -> Mem<Reply>
+        requires name { is_predicate name.now ≡ true }
+        ensures { IfOk result (λ reply. Leads self.now (λ m n. queried m sid uid name.now ≡ (reply, n)) self.now) }
     {
-        if self.session.is_none() {
-            return Ok(Reply::Refused(Refusal::NoSession { sid: SESSION }));
-        }
-        let body = answer_text(alloc, name, self.find(uid, name))?;
-        Ok(Reply::Query { sid: SESSION, body })
-    }
-
-    // The text that the open transaction sees, where there is one.
-    fn find(&self, uid: u64, name: &[u8]) -> Option<&Fact>
-        ensures { IfSome self.now.session (λ opened. objects_of (option_copied result) ≡ objects (graph_at (state_of self.now).alters (state_of self.now).commits opened.start (map change_of opened.own)) name.now uid) }
-    {
-        let session = self.session.as_ref()?;
-        let committed = last_committed(uid, name, session.start, self.commits.as_slice());
-        last_of(uid, name, session.own.as_slice(), committed)
+        let Some(place) = self.place_of(sid) else {
+            return Ok(no_session(sid));
+        };
+        let p = text_of(alloc, name)?;
+        let objects = seen_by(alloc, &self.zero, &self.sessions[place], p.as_str(), uid)?;
+        let body = answer_text(alloc, name, objects.as_slice())?;
+        Ok(Reply::Query { sid, body })
     }
 }
 
-// The text that the commits up to a timestamp set last.
-fn last_committed<'a>(uid: u64, name: &[u8], ts: u64, commits: &'a [Committed]) -> Option<&'a Fact>
-    ensures { plain.objects_of (option_copied result) ≡ plain.objects_after_commits uid name.now ts commits.now [] }
+// The objects of a subject that a transaction sees: those at its start, and then its own changes.
+fn seen_by(alloc: Global, zero: &ZeroState, opened: &Opened, p: &str, s: u64) -> Mem<Vec<Posting>>
+    requires legal { IsLegal zero.now.groups zero.now.history }
+    requires opened { IsOpened zero.now.history opened.now }
+    requires active { is_active_of (active zero.now.history) opened.now.start 0 ≡ true }
+    ensures { IfOk result (λ v. v.items ≡ objects (graph_at zero.now.history opened.now.start opened.now.own) p.now s) }
 {
-    let mut last = None;
-    for commit in commits {
-        if commit.ts <= ts {
-            last = last_of(uid, name, commit.facts.as_slice(), last);
-        }
+    let seen = zero.seen_at(alloc, &opened.schema, opened.start)?;
+    let mut objects = seen.objects(alloc, p, s)?;
+    let own = opened.own.as_slice();
+    for change in own {
+        change_objects(alloc, &opened.schema, p, s, &mut objects, change)?;
     }
-    last
+    Ok(objects)
 }
 
-// The answer's text.
-fn answer_text(alloc: Global, name: &[u8], found: Option<&Fact>) -> Mem<List<u8>>
-    ensures { IfOk result (λ text. text ≡ answer_text name.now (plain.objects_of (option_copied found.entry))) }
+// Appends the tree of a node, where its object is a text.
+fn push_node(text: &mut Vec<u8>, name: &[u8], objects: &[Posting]) -> Mem<()>
+    ensures { IfOk result (λ u. text.new.items ≡ text.old.items ++ node_text name.now objects.now) }
 {
-    let mut text = Vec::from_slice(alloc, b"{\"data\":{\"q\":[")?;
-    if let Some(fact) = found {
+    if let [Posting::Val(Value::Text(value))] = objects {
         text.extend_from_slice(b"{\"")?;
         text.extend_from_slice(name)?;
         text.extend_from_slice(b"\":\"")?;
-        text.extend_from_slice(fact.value.as_str().as_bytes())?;
+        text.extend_from_slice(value.as_str().as_bytes())?;
         text.extend_from_slice(b"\"}")?;
     }
+    Ok(())
+}
+
+// The answer's text.
+fn answer_text(alloc: Global, name: &[u8], objects: &[Posting]) -> Mem<List<u8>>
+    ensures { IfOk result (λ text. text ≡ answer_text name.now objects.now) }
+{
+    let mut text = Vec::from_slice(alloc, b"{\"data\":{\"q\":[")?;
+    push_node(&mut text, name, objects)?;
     text.extend_from_slice(b"]}}")?;
     Ok(List::from_vec(text))
 }

@@ -15,6 +15,20 @@ const SESSION: &str =
 const SESSION_REPLIES: &str =
     "ok alter 1 2\nok begin 1 3\nok mutate 1 11\n{\"uids\":{}}\nok commit 1 4\nok begin 1 5\nok query 1 31\n{\"data\":{\"q\":[{\"name\":\"Ann\"}]}}\nerror 2 SessionOpen 1\nok commit 1 0\nerror 1 NoSession 1\nerror 98 Unbuilt\n";
 
+// Two sessions write one node, and the later commit is refused; an alter waits for both.
+const CONFLICT: &str =
+    "alter 14\nname: string .\nbegin 1\nbegin 16\nalter 14\nnick: string .\nmutate 1 20\n<0x1> <name> \"Ann\" .\nmutate 16 20\n<0x1> <name> \"Bob\" .\ncommit 1\nquery 16 30\n{ q(func: uid(0x1)) { name } }\ncommit 16\ncommit 16\nbegin 2\nquery 2 30\n{ q(func: uid(0x1)) { name } }\n";
+
+const CONFLICT_REPLIES: &str =
+    "ok alter 1 2\nok begin 1 3\nok begin 16 4\nerror 20 Pending 3\nok mutate 1 11\n{\"uids\":{}}\nok mutate 16 11\n{\"uids\":{}}\nok commit 1 5\nok query 16 31\n{\"data\":{\"q\":[{\"name\":\"Bob\"}]}}\nerror 19 Conflict 5 data name 0x1\nerror 1 NoSession 16\nok begin 2 6\nok query 2 31\n{\"data\":{\"q\":[{\"name\":\"Ann\"}]}}\n";
+
+// A reader sees its own moment, and what is discarded is never seen.
+const READERS: &str =
+    "alter 14\nname: string .\nbegin 2\nbegin 1\nmutate 1 20\n<0x1> <name> \"Ann\" .\ncommit 1\nquery 2 30\n{ q(func: uid(0x1)) { name } }\nbegin 3\nmutate 3 20\n<0x1> <name> \"Cid\" .\nquery 3 30\n{ q(func: uid(0x1)) { name } }\ndiscard 3\ndiscard 3\nbegin 3\nquery 3 30\n{ q(func: uid(0x1)) { name } }\nquery 4 30\n{ q(func: uid(0x1)) { name } }\nbegin 3\ncommit 2\n";
+
+const READERS_REPLIES: &str =
+    "ok alter 1 2\nok begin 2 3\nok begin 1 4\nok mutate 1 11\n{\"uids\":{}}\nok commit 1 5\nok query 2 17\n{\"data\":{\"q\":[]}}\nok begin 3 6\nok mutate 3 11\n{\"uids\":{}}\nok query 3 31\n{\"data\":{\"q\":[{\"name\":\"Cid\"}]}}\nok discard 3\nerror 1 NoSession 3\nok begin 3 7\nok query 3 31\n{\"data\":{\"q\":[{\"name\":\"Ann\"}]}}\nerror 1 NoSession 4\nerror 2 SessionOpen 3\nok commit 2 0\n";
+
 // What a script is run with, and what has to come of it.
 #[derive(Clone, Copy)]
 struct Case<'a> {
@@ -119,6 +133,26 @@ fn runs_scripts(rt: HostRuntime) -> Result<(), Fail> {
         run_case(&rt, alloc, case)?;
     }
     Ok(())
+}
+
+#[test]
+fn runs_sessions_beside_each_other(rt: HostRuntime) -> Result<(), Fail> {
+    let alloc = rt.alloc();
+    let conflict = Case {
+        script: CONFLICT,
+        most: 65_536,
+        failing_read: 0,
+        failing_write: 0,
+        status: Status::Done,
+        written: CONFLICT_REPLIES,
+    };
+    run_case(&rt, alloc, &conflict)?;
+    let readers = Case {
+        script: READERS,
+        written: READERS_REPLIES,
+        ..conflict
+    };
+    run_case(&rt, alloc, &readers)
 }
 
 // Fifty transactions that each set a name at a node of their own and at the first node, and a last one that asks.

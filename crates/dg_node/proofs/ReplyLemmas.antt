@@ -1,0 +1,129 @@
+-- What the machine answers, case by case.
+use Rattle.std.proofs.Common.{◌≡◌, ◌≢◌, ℕ, ◌+◌, ◌<◌, ◌≤◌, ◌^◌, ◌-◌, true, false, List, [], ◌∷◌, ◌++◌, Option, Some, None, refl, ap, sym, ◌∙◌, arith}
+use Rattle.std.specs.Prelude.{◌==◌, nat_lt, is_some, position, find}
+use Rattle.std.proofs.lemmas.Grind.{common_steps}
+use Rattle.dg_schema.specs.declared.definition.PredDef.{PredDef}
+use Rattle.dg_schema.specs.Definitions.{is_declared}
+use Rattle.dg_graph.specs.declared.change.Change.{Change}
+use Rattle.dg_wire.specs.declared.refusal.Refusal.{Refusal}
+use Rattle.dg_wire.specs.declared.refusal.Refusal.TheVariants as refusals
+use Rattle.dg_wire.specs.declared.reply.Reply.{Reply}
+use Rattle.dg_wire.specs.declared.reply.Reply.TheVariants as replies
+use Rattle.dg_zero.specs.States.{Zero}
+use Rattle.dg_node.specs.declared.engine.Opened.{Opened}
+use Rattle.dg_node.specs.Schemas.{schema_at}
+use Rattle.dg_node.specs.Machine.{Machine, Session, session_of, is_open, with_session, with_change, without_session, drawn}
+use Rattle.dg_node.specs.Alters.{altered, least_start}
+use Rattle.dg_node.specs.Transactions.{begun, committed, committed_with, committed_unless, clash_of, with_commit, discarded}
+use Rattle.dg_node.specs.Mutations.{mutated, text_set, no_uids}
+use Rattle.dg_node.specs.Queries.{queried, seen, answer_text}
+use Rattle.dg_node.specs.Kept.{IsKept}
+use Rattle.dg_node.specs.State.{session_from, StandFor}
+use Rattle.dg_node.proofs.OneAmong.{around, some_found}
+use Rattle.dg_node.proofs.SessionLemmas.{open_here}
+
+abbrev Pair : Type 0
+Pair = Reply × Machine
+
+less : (n : ℕ) → n < 2 ^ 62 → nat_lt n (2 ^ 62) ≡ true
+less n lt = grind (arith, common_steps)
+
+not_less : (n : ℕ) → n ≡ 2 ^ 62 → nat_lt n (2 ^ 62) ≡ false
+not_less n e = grind (arith, common_steps)
+
+-- ---- begin
+
+pub begun_is : (m : Machine) (sid start : ℕ) → session_of m sid ≡ None → m.next < 2 ^ 62 → start ≡ m.next → ◌≡◌ {A = Pair} (begun m sid) (replies.Begin sid start, with_session (drawn m (m.next + 1)) sid m.next)
+begun_is m sid start none lt e = rw (none, less m.next lt, e) refl
+
+pub begin_spent : (m : Machine) (sid spent : ℕ) → session_of m sid ≡ None → m.next ≡ 2 ^ 62 → spent ≡ m.next → ◌≡◌ {A = Pair} (begun m sid) (replies.Refused (refusals.TimestampsSpent spent), m)
+begin_spent m sid spent none end e = rw (none, not_less m.next end, e) refl
+
+pub begun_already : (m : Machine) (sid : ℕ) → is_open m sid ≡ true → ◌≡◌ {A = Pair} (begun m sid) (replies.Refused (refusals.SessionOpen sid), m)
+begun_already m sid opens = rw opens refl
+
+-- whether a session is open, by its place
+pub some_open : (z : Zero) (os : List Opened) (sid : ℕ) (found : Option ℕ) (m : Machine) → IsKept z os → found ≡ position (λ (o : Opened). o.sid == sid) os → is_some found ≡ true → StandFor z os m → is_open m sid ≡ true
+some_open z os sid None m k e there s = absurd (cc)
+some_open z os sid (Some place) m k e there s = ap is_some (open_here z os k sid place (around (λ (o : Opened). o.sid) sid os place (sym e)) m s)
+
+pub not_some : (os : List Opened) (sid : ℕ) (found : Option ℕ) → found ≡ position (λ (o : Opened). o.sid == sid) os → is_some found ≡ false → position (λ (o : Opened). o.sid == sid) os ≡ None
+not_some os sid None e none = sym e
+not_some os sid (Some place) e none = absurd (cc)
+
+-- ---- discard
+
+pub discarded_is : (z : Zero) (os : List Opened) (m : Machine) (sid place : ℕ) → StandFor z os m → position (λ (o : Opened). o.sid == sid) os ≡ Some place → ◌≡◌ {A = Pair} (discarded m sid) (replies.Discard sid, without_session m sid)
+discarded_is z os m sid place s e =
+    let there : is_open m sid ≡ true = ap (λ (l : List Session). is_some (find (λ (session : Session). session.sid == sid) l)) s.sessions_are ∙ some_found session_from (λ (session : Session). session.sid) sid os place e in
+    rw there refl
+
+-- ---- commit
+
+with_changes : (m : Machine) (session : Session) (own : List Change) → own ≢ [] → ◌≡◌ {A = Pair} (committed_with m session own) (committed_unless m session (clash_of m session))
+with_changes m session [] some = absurd (some refl)
+with_changes m session (change ∷ own) some = refl
+
+module _ (m : Machine) (sid : ℕ) (o : Opened) (opens : session_of m sid ≡ Some (session_from o)) (is : o.sid ≡ sid) where
+  without_changes : (own : List Change) → own ≡ [] → ◌≡◌ {A = Pair} (committed_with m (session_from o) own) (replies.Commit o.sid 0, without_session m o.sid)
+  without_changes [] e = refl
+  without_changes (change ∷ own) e = absurd (cc)
+
+  pub nothing_committed : o.own ≡ [] → ◌≡◌ {A = Pair} (committed m sid) (replies.Commit sid 0, without_session m sid)
+  nothing_committed none = rw opens (without_changes o.own none ∙ (λ i. (replies.Commit (is i) 0, without_session m (is i))))
+
+  unless : o.own ≢ [] → ◌≡◌ {A = Pair} (committed m sid) (committed_unless m (session_from o) (clash_of m (session_from o)))
+  unless some = rw opens (with_changes m (session_from o) o.own some)
+
+  pub committed_is : (ts : ℕ) → o.own ≢ [] → clash_of m (session_from o) ≡ None → m.next < 2 ^ 62 → ts ≡ m.next → ◌≡◌ {A = Pair} (committed m sid) (replies.Commit sid ts, without_session (drawn (with_commit m (session_from o)) (m.next + 1)) sid)
+  committed_is ts some clear lt e =
+      unless some ∙ (ap (λ (r : Option Refusal). committed_unless m (session_from o) r) clear
+      ∙ (rw (less m.next lt) refl ∙ (λ i. (replies.Commit (is i) (back i), without_session (drawn (with_commit m (session_from o)) (m.next + 1)) (is i)))))
+    where
+      back : m.next ≡ ts
+      back = sym e
+
+  pub commit_clashes : (refusal : Refusal) → o.own ≢ [] → clash_of m (session_from o) ≡ Some refusal → ◌≡◌ {A = Pair} (committed m sid) (replies.Refused refusal, without_session m sid)
+  commit_clashes refusal some clash =
+      unless some ∙ (ap (λ (r : Option Refusal). committed_unless m (session_from o) r) clash ∙ (λ i. (replies.Refused refusal, without_session m (is i))))
+
+  pub commit_spent : (spent : ℕ) → o.own ≢ [] → clash_of m (session_from o) ≡ None → m.next ≡ 2 ^ 62 → spent ≡ m.next → ◌≡◌ {A = Pair} (committed m sid) (replies.Refused (refusals.TimestampsSpent spent), m)
+  commit_spent spent some clear end e =
+      unless some ∙ (ap (λ (r : Option Refusal). committed_unless m (session_from o) r) clear ∙ rw (not_less m.next end, e) refl)
+
+  -- ---- the others
+
+  pub mutated_is : (uid : ℕ) (name value : List ℕ) → is_declared (schema_at m.alters o.start) name ≡ true → ◌≡◌ {A = Pair} (mutated m sid uid name value) (replies.Mutate sid no_uids, with_change m sid (text_set uid name value))
+  mutated_is uid name value there = rw (opens, there) refl
+
+  pub mutation_unbuilt : (uid : ℕ) (name value : List ℕ) → is_declared (schema_at m.alters o.start) name ≡ false → ◌≡◌ {A = Pair} (mutated m sid uid name value) (replies.Refused refusals.Unbuilt, m)
+  mutation_unbuilt uid name value none = rw (opens, none) refl
+
+  pub queried_is : (uid : ℕ) (name : List ℕ) → ◌≡◌ {A = Pair} (queried m sid uid name) (replies.Query sid (answer_text name (seen m (session_from o) uid name)), m)
+  queried_is uid name = rw opens refl
+
+module _ (m : Machine) (sid : ℕ) (closed : session_of m sid ≡ None) where
+  pub no_commit : ◌≡◌ {A = Pair} (committed m sid) (replies.Refused (refusals.NoSession sid), m)
+  no_commit = rw closed refl
+
+  pub no_discard : ◌≡◌ {A = Pair} (discarded m sid) (replies.Refused (refusals.NoSession sid), m)
+  no_discard = rw closed refl
+
+  pub no_mutation : (uid : ℕ) (name value : List ℕ) → ◌≡◌ {A = Pair} (mutated m sid uid name value) (replies.Refused (refusals.NoSession sid), m)
+  no_mutation uid name value = rw closed refl
+
+  pub no_query : (uid : ℕ) (name : List ℕ) → ◌≡◌ {A = Pair} (queried m sid uid name) (replies.Refused (refusals.NoSession sid), m)
+  no_query uid name = rw closed refl
+
+-- ---- alter
+
+pub altered_is : (m : Machine) (newer : List PredDef) (start ts : ℕ) → least_start m.sessions ≡ None → m.next + 1 < 2 ^ 62 → start ≡ m.next → ts ≡ m.next + 1 → ◌≡◌ {A = Pair} (altered m newer) (replies.Alter start ts, record { groups = m.groups; next = m.next + 2; alters = m.alters ++ (record { start = m.next; ts = m.next + 1; definitions = newer }) ∷ []; commits = m.commits; sessions = m.sessions })
+altered_is m newer start ts none lt e f = rw (none, less (m.next + 1) lt, e, f) refl
+
+pub alter_pending : (m : Machine) (newer : List PredDef) (start : ℕ) → least_start m.sessions ≡ Some start → ◌≡◌ {A = Pair} (altered m newer) (replies.Refused (refusals.Pending start), m)
+alter_pending m newer start some = rw some refl
+
+pub alter_spent : (m : Machine) (newer : List PredDef) (spent : ℕ) → least_start m.sessions ≡ None → 2 ^ 62 - 1 ≤ m.next → spent ≡ m.next → ◌≡◌ {A = Pair} (altered m newer) (replies.Refused (refusals.TimestampsSpent spent), m)
+alter_spent m newer spent none le e =
+    let late : nat_lt (m.next + 1) (2 ^ 62) ≡ false = grind (arith, common_steps) in
+    rw (none, late, e) refl
