@@ -1,0 +1,20 @@
+// What the tokens of a text are.
+ghost use Rattle.dg_text.specs.Laws.{FindsToken, FindsNone, FrontIsTokens, FrontReads, LexedIsTokens, LexedStops};
+
+/// The token that is found at the front of a text is the one that starts it, and none is found exactly where none starts.
+pub fn tokens_start()
+    ensures found { FindsToken }
+    ensures none { FindsNone }
+{}
+
+/// What is read from the front of a text are its tokens up to where none starts, for each text.
+pub fn fronts_are_tokens()
+    ensures exact { FrontIsTokens }
+    ensures read { FrontReads }
+{}
+
+/// A text is read exactly where its tokens go to its end, and its fault is where they end before that.
+pub fn texts_are_tokens()
+    ensures tokens { LexedIsTokens }
+    ensures fault { LexedStops }
+{}
