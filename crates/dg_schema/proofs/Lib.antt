@@ -3,6 +3,7 @@ pub mod Joining
 pub mod ByName
 pub mod Lists
 pub mod Lines
+pub mod WordTables
 pub mod NameOrder
 pub mod Saying
 pub mod Understood

@@ -1,6 +1,7 @@
 -- The words of the schema language.
-use Rattle.std.specs.Prelude.{ℕ, Bool, true, false, ◌||◌, ◌&&◌, not, List, Option, Some, None, codes, if◌then◌else◌, length, ◌==◌, nat_le}
+use Rattle.std.specs.Prelude.{ℕ, suc, Bool, true, false, ◌||◌, ◌&&◌, not, List, [], ◌∷◌, Option, Some, None, codes, if◌then◌else◌, length, ◌==◌, nat_le}
 use Rattle.std.specs.Str.{bytes_eq}
+use Rattle.dg_table.specs.Rows.{Row}
 use Rattle.dg_text.specs.Tokens.{Tok, is_name, is_iri, is_at}
 use Rattle.dg_text.specs.Forms.{name_len}
 use Rattle.dg_values.specs.declared.kind.Kind.{Kind}
@@ -10,40 +11,56 @@ use Rattle.dg_values.specs.declared.kind.Tokenizer.TheVariants as tokenizers
 use Rattle.dg_schema.specs.declared.words.Directive.{Directive}
 use Rattle.dg_schema.specs.declared.words.Directive.TheVariants as directives
 
+-- what the first row of that word names
+abbrev pub named_in : {A : Type 0} → List (List ℕ × A) → List ℕ → Option A
+named_in [] word = None
+named_in (row ∷ rows) word = if bytes_eq word row.0 then Some row.1 else named_in rows word
+
+-- the words of kinds
+abbrev pub kind_words : List (List ℕ × Kind)
+kind_words =
+    (codes "default", kinds.Default) ∷ (codes "int", kinds.Int) ∷ (codes "string", kinds.Text) ∷ (codes "bool", kinds.Bool)
+    ∷ (codes "dateTime", kinds.Time) ∷ (codes "uid", kinds.Uid) ∷ (codes "datetime", kinds.Time) ∷ []
+
+-- the words of tokenizers
+abbrev pub tokenizer_words : List (List ℕ × Tokenizer)
+tokenizer_words =
+    (codes "exact", tokenizers.Exact) ∷ (codes "hash", tokenizers.Hash) ∷ (codes "term", tokenizers.Term)
+    ∷ (codes "trigram", tokenizers.Trigram) ∷ (codes "int", tokenizers.Int) ∷ (codes "bool", tokenizers.Bool)
+    ∷ (codes "year", tokenizers.Year) ∷ (codes "month", tokenizers.Month) ∷ (codes "day", tokenizers.Day)
+    ∷ (codes "hour", tokenizers.Hour) ∷ []
+
+-- the words of directives, with their @
+abbrev pub directive_words : List (List ℕ × Directive)
+directive_words =
+    (codes "@index", directives.Index) ∷ (codes "@reverse", directives.Reverse) ∷ (codes "@count", directives.Count)
+    ∷ (codes "@upsert", directives.Upsert) ∷ []
+
 -- the kind that a word names
 abbrev pub kind_of_word : List ℕ → Option Kind
-kind_of_word word =
-    if bytes_eq word (codes "default") then Some kinds.Default
-    else if bytes_eq word (codes "string") then Some kinds.Text
-    else if bytes_eq word (codes "int") then Some kinds.Int
-    else if bytes_eq word (codes "bool") then Some kinds.Bool
-    else if bytes_eq word (codes "dateTime") || bytes_eq word (codes "datetime") then Some kinds.Time
-    else if bytes_eq word (codes "uid") then Some kinds.Uid
-    else None
+kind_of_word = named_in kind_words
 
 -- the tokenizer that a word names
 abbrev pub tokenizer_of_word : List ℕ → Option Tokenizer
-tokenizer_of_word word =
-    if bytes_eq word (codes "exact") then Some tokenizers.Exact
-    else if bytes_eq word (codes "hash") then Some tokenizers.Hash
-    else if bytes_eq word (codes "term") then Some tokenizers.Term
-    else if bytes_eq word (codes "trigram") then Some tokenizers.Trigram
-    else if bytes_eq word (codes "int") then Some tokenizers.Int
-    else if bytes_eq word (codes "bool") then Some tokenizers.Bool
-    else if bytes_eq word (codes "year") then Some tokenizers.Year
-    else if bytes_eq word (codes "month") then Some tokenizers.Month
-    else if bytes_eq word (codes "day") then Some tokenizers.Day
-    else if bytes_eq word (codes "hour") then Some tokenizers.Hour
-    else None
+tokenizer_of_word = named_in tokenizer_words
 
 -- the directive that a word with its @ names
 abbrev pub directive_of_word : List ℕ → Option Directive
-directive_of_word word =
-    if bytes_eq word (codes "@index") then Some directives.Index
-    else if bytes_eq word (codes "@reverse") then Some directives.Reverse
-    else if bytes_eq word (codes "@count") then Some directives.Count
-    else if bytes_eq word (codes "@upsert") then Some directives.Upsert
-    else None
+directive_of_word = named_in directive_words
+
+-- each word with the place of its row, from a place on
+abbrev pub placed : {A : Type 0} → ℕ → List (List ℕ × A) → List Row
+placed place [] = []
+placed place (row ∷ rows) = (row.0, place) ∷ placed (suc place) rows
+
+-- the place of a kind among the kinds
+abbrev pub kind_place : Kind → ℕ
+kind_place kinds.Default = 0
+kind_place kinds.Int = 1
+kind_place kinds.Text = 2
+kind_place kinds.Bool = 3
+kind_place kinds.Time = 4
+kind_place kinds.Uid = 5
 
 -- a Name that is a scalar
 abbrev pub kind_meant : Tok → Option Kind

@@ -10,19 +10,19 @@ ghost use Rattle.dg_schema.specs.Grammar.{define, stated, statement, statements,
 use crate::Schema;
 use crate::checks::{definition_of, may_follow};
 use crate::statement::{Marks, Shape, Statement};
-use crate::words::{Directive, directive_of, kind_of, predicate_of, tokenizer_of};
+use crate::words::{Directive, Words, predicate_of};
 use dg_text::reading::{is_a_name, is_an_iri, left, next_is_at, next_is_punct, peek, punct};
 use dg_text::{Piece, ReadError};
 use dg_values::{Kind, List, OutOfMemory, Str, Tokenizer};
 use std::alloc::Global;
 
 // The kind that the next token names, and the place behind it.
-fn kind_at(tokens: &[Piece], at: usize) -> Result<(Kind, usize), ReadError>
+fn kind_at(words: &Words, tokens: &[Piece], at: usize) -> Result<(Kind, usize), ReadError>
     ensures { Gives (λ kind. kind) (toks tokens.now) result (one_as kind_meant (drop at (toks tokens.now))) }
 {
     match peek(tokens, at) {
         None => Err(ReadError::Fault { left: 0 }),
-        Some(token) => match kind_of(token) {
+        Some(token) => match words.kind_of(token) {
             Some(kind) => Ok((kind, at + 1)),
             None => Err(ReadError::Fault {
                 left: left(tokens, at),
@@ -32,12 +32,12 @@ fn kind_at(tokens: &[Piece], at: usize) -> Result<(Kind, usize), ReadError>
 }
 
 // The tokenizer that the next token names, and the place behind it.
-fn tokenizer_at(tokens: &[Piece], at: usize) -> Result<(Tokenizer, usize), ReadError>
+fn tokenizer_at(words: &Words, tokens: &[Piece], at: usize) -> Result<(Tokenizer, usize), ReadError>
     ensures { Gives (λ tokenizer. tokenizer) (toks tokens.now) result (one_as tokenizer_meant (drop at (toks tokens.now))) }
 {
     match peek(tokens, at) {
         None => Err(ReadError::Fault { left: 0 }),
-        Some(token) => match tokenizer_of(token) {
+        Some(token) => match words.tokenizer_of(token) {
             Some(tokenizer) => Ok((tokenizer, at + 1)),
             None => Err(ReadError::Fault {
                 left: left(tokens, at),
@@ -47,12 +47,16 @@ fn tokenizer_at(tokens: &[Piece], at: usize) -> Result<(Tokenizer, usize), ReadE
 }
 
 // The directive that the next token is, and the place behind it.
-fn directive_word_at(tokens: &[Piece], at: usize) -> Result<(Directive, usize), ReadError>
+fn directive_word_at(
+    words: &Words,
+    tokens: &[Piece],
+    at: usize,
+) -> Result<(Directive, usize), ReadError>
     ensures { Gives (λ word. word) (toks tokens.now) result (one_as directive_meant (drop at (toks tokens.now))) }
 {
     match peek(tokens, at) {
         None => Err(ReadError::Fault { left: 0 }),
-        Some(token) => match directive_of(token) {
+        Some(token) => match words.directive_of(token) {
             Some(word) => Ok((word, at + 1)),
             None => Err(ReadError::Fault {
                 left: left(tokens, at),
@@ -77,33 +81,38 @@ fn predicate_at<'a, 'b>(tokens: &'b [Piece<'a>], at: usize) -> Result<(&'a str, 
 }
 
 // A scalar, which may stand in a list.
-fn scalar_at(list: bool, tokens: &[Piece], at: usize) -> Result<(Shape, usize), ReadError>
+fn scalar_at(
+    list: bool,
+    words: &Words,
+    tokens: &[Piece],
+    at: usize,
+) -> Result<(Shape, usize), ReadError>
     ensures { Gives (λ shape. shape) (toks tokens.now) result (scalar list (drop at (toks tokens.now))) }
 {
-    let (kind, at) = kind_at(tokens, at)?;
+    let (kind, at) = kind_at(words, tokens, at)?;
     Ok((Shape { kind, list }, at))
 }
 
 // A scalar between `[` and `]`.
 #[tactic(auto, unfolding(crate::specs::Grammar::list_type))]
-fn list_type_at(tokens: &[Piece], at: usize) -> Result<(Shape, usize), ReadError>
+fn list_type_at(words: &Words, tokens: &[Piece], at: usize) -> Result<(Shape, usize), ReadError>
     ensures { Gives (λ shape. shape) (toks tokens.now) result (list_type (drop at (toks tokens.now))) }
 {
     let (_, at) = punct(tokens, at, b'[')?;
-    let (shape, at) = scalar_at(true, tokens, at)?;
+    let (shape, at) = scalar_at(true, words, tokens, at)?;
     let (_, at) = punct(tokens, at, b']')?;
     Ok((shape, at))
 }
 
 // A type, by whether `[` comes next.
 #[tactic(auto, unfolding(crate::specs::Grammar::type_of))]
-fn type_at(tokens: &[Piece], at: usize) -> Result<(Shape, usize), ReadError>
+fn type_at(words: &Words, tokens: &[Piece], at: usize) -> Result<(Shape, usize), ReadError>
     ensures { Gives (λ shape. shape) (toks tokens.now) result (type_of (drop at (toks tokens.now))) }
 {
     if next_is_punct(tokens, at, b'[') {
-        list_type_at(tokens, at)
+        list_type_at(words, tokens, at)
     } else {
-        scalar_at(false, tokens, at)
+        scalar_at(false, words, tokens, at)
     }
 }
 
@@ -111,13 +120,14 @@ fn type_at(tokens: &[Piece], at: usize) -> Result<(Shape, usize), ReadError>
 #[tactic(auto, unfolding(crate::specs::Grammar::comma_tokenizer))]
 fn comma_tokenizer_at(
     mut before: List<Tokenizer>,
+    words: &Words,
     tokens: &[Piece],
     at: usize,
 ) -> Result<(List<Tokenizer>, usize), ReadError>
     ensures { Gives (λ listed. listed) (toks tokens.now) result (comma_tokenizer before (drop at (toks tokens.now))) }
 {
     let (_, at) = punct(tokens, at, b',')?;
-    let (tokenizer, at) = tokenizer_at(tokens, at)?;
+    let (tokenizer, at) = tokenizer_at(words, tokens, at)?;
     before.push(tokenizer)?;
     Ok((before, at))
 }
@@ -126,6 +136,7 @@ fn comma_tokenizer_at(
 #[tactic(auto, using(dg_text::proofs::Turns::goes_on, dg_text::proofs::Turns::ends, dg_text::proofs::Turns::stops, dg_text::proofs::Turns::is_done))]
 fn more_tokenizers_at(
     first: List<Tokenizer>,
+    words: &Words,
     tokens: &[Piece],
     start: usize,
 ) -> Result<(List<Tokenizer>, usize), ReadError>
@@ -138,7 +149,7 @@ fn more_tokenizers_at(
         if !next_is_punct(tokens, at, b',') {
             return Ok((all, at));
         }
-        let (more, after) = comma_tokenizer_at(all, tokens, at)?;
+        let (more, after) = comma_tokenizer_at(all, words, tokens, at)?;
         all = more;
         at = after;
     }
@@ -149,16 +160,17 @@ fn more_tokenizers_at(
 #[tactic(auto, unfolding(crate::specs::Grammar::tokenizers))]
 fn tokenizers_at(
     alloc: Global,
+    words: &Words,
     tokens: &[Piece],
     at: usize,
 ) -> Result<(List<Tokenizer>, usize), ReadError>
     ensures { Gives (λ listed. listed) (toks tokens.now) result (tokenizers (drop at (toks tokens.now))) }
 {
     let (_, at) = punct(tokens, at, b'(')?;
-    let (first, at) = tokenizer_at(tokens, at)?;
+    let (first, at) = tokenizer_at(words, tokens, at)?;
     let mut all = List::new(alloc);
     all.push(first)?;
-    let (all, at) = more_tokenizers_at(all, tokens, at)?;
+    let (all, at) = more_tokenizers_at(all, words, tokens, at)?;
     let (_, at) = punct(tokens, at, b')')?;
     Ok((all, at))
 }
@@ -166,13 +178,14 @@ fn tokenizers_at(
 // The list behind `@index`; none where there is no `(`.
 fn listed_at(
     alloc: Global,
+    words: &Words,
     tokens: &[Piece],
     at: usize,
 ) -> Result<(List<Tokenizer>, usize), ReadError>
     ensures { Gives (λ listed. listed) (toks tokens.now) result (optional (next (is_punct open_round)) tokenizers [] (drop at (toks tokens.now))) }
 {
     if next_is_punct(tokens, at, b'(') {
-        tokenizers_at(alloc, tokens, at)
+        tokenizers_at(alloc, words, tokens, at)
     } else {
         Ok((List::new(alloc), at))
     }
@@ -183,12 +196,13 @@ fn listed_at(
 fn index_at(
     alloc: Global,
     mut marks: Marks,
+    words: &Words,
     tokens: &[Piece],
     at: usize,
 ) -> Result<(Marks, usize), ReadError>
     ensures { Gives (λ marks. marks) (toks tokens.now) result (index marks (drop at (toks tokens.now))) }
 {
-    let (listed, at) = listed_at(alloc, tokens, at)?;
+    let (listed, at) = listed_at(alloc, words, tokens, at)?;
     marks.tokens = listed;
     marks.twice = marks.twice || marks.indexed;
     marks.indexed = true;
@@ -200,14 +214,15 @@ fn index_at(
 fn directive_at(
     alloc: Global,
     mut marks: Marks,
+    words: &Words,
     tokens: &[Piece],
     at: usize,
 ) -> Result<(Marks, usize), ReadError>
     ensures { Gives (λ marks. marks) (toks tokens.now) result (directive marks (drop at (toks tokens.now))) }
 {
-    let (word, at) = directive_word_at(tokens, at)?;
+    let (word, at) = directive_word_at(words, tokens, at)?;
     match word {
-        Directive::Index => return index_at(alloc, marks, tokens, at),
+        Directive::Index => return index_at(alloc, marks, words, tokens, at),
         Directive::Reverse => {
             marks.twice = marks.twice || marks.reverse;
             marks.reverse = true;
@@ -226,7 +241,12 @@ fn directive_at(
 
 // What all directives of a statement say.
 #[tactic(auto, using(dg_text::proofs::Turns::goes_on, dg_text::proofs::Turns::ends, dg_text::proofs::Turns::stops, dg_text::proofs::Turns::is_done))]
-fn directives_at(alloc: Global, tokens: &[Piece], start: usize) -> Result<(Marks, usize), ReadError>
+fn directives_at(
+    alloc: Global,
+    words: &Words,
+    tokens: &[Piece],
+    start: usize,
+) -> Result<(Marks, usize), ReadError>
     ensures { Gives (λ marks. marks) (toks tokens.now) result (repeated (next is_at) directive unmarked (drop start (toks tokens.now))) }
 {
     let most = left(tokens, start);
@@ -243,7 +263,7 @@ fn directives_at(alloc: Global, tokens: &[Piece], start: usize) -> Result<(Marks
         if !next_is_at(tokens, at) {
             return Ok((marks, at));
         }
-        let (more, after) = directive_at(alloc, marks, tokens, at)?;
+        let (more, after) = directive_at(alloc, marks, words, tokens, at)?;
         marks = more;
         at = after;
     }
@@ -263,14 +283,19 @@ fn owned(alloc: Global, text: &str) -> Result<Str, ReadError>
 
 // A statement up to its point.
 #[tactic(auto, unfolding(crate::specs::Grammar::stated))]
-fn stated_at(alloc: Global, tokens: &[Piece], start: usize) -> Result<(Statement, usize), ReadError>
+fn stated_at(
+    alloc: Global,
+    words: &Words,
+    tokens: &[Piece],
+    start: usize,
+) -> Result<(Statement, usize), ReadError>
     ensures { Gives (λ statement. statement) (toks tokens.now) result (stated (drop start (toks tokens.now))) }
 {
     let place = left(tokens, start);
     let (name, at) = predicate_at(tokens, start)?;
     let (_, at) = punct(tokens, at, b':')?;
-    let (shape, at) = type_at(tokens, at)?;
-    let (marks, at) = directives_at(alloc, tokens, at)?;
+    let (shape, at) = type_at(words, tokens, at)?;
+    let (marks, at) = directives_at(alloc, words, tokens, at)?;
     let (_, at) = punct(tokens, at, b'.')?;
     let name = owned(alloc, name)?;
     Ok((
@@ -302,12 +327,13 @@ fn declare(mut earlier: Schema, statement: Statement) -> Result<Schema, ReadErro
 fn statement_at(
     alloc: Global,
     earlier: Schema,
+    words: &Words,
     tokens: &[Piece],
     start: usize,
 ) -> Result<(Schema, usize), ReadError>
     ensures { Gives (λ all. all) (toks tokens.now) result (statement earlier (drop start (toks tokens.now))) }
 {
-    let (next, at) = stated_at(alloc, tokens, start)?;
+    let (next, at) = stated_at(alloc, words, tokens, start)?;
     if !may_follow(&earlier, &next) {
         return Err(ReadError::Fault { left: next.place });
     }
@@ -329,6 +355,7 @@ fn statement_begins(tokens: &[Piece], at: usize) -> bool
 #[tactic(auto, using(dg_text::proofs::Turns::goes_on, dg_text::proofs::Turns::ends, dg_text::proofs::Turns::stops, dg_text::proofs::Turns::is_done))]
 pub fn statements_at(
     alloc: Global,
+    words: &Words,
     tokens: &[Piece],
     start: usize,
 ) -> Result<(Schema, usize), ReadError>
@@ -341,7 +368,7 @@ pub fn statements_at(
         if !statement_begins(tokens, at) {
             return Ok((all, at));
         }
-        let (more, after) = statement_at(alloc, all, tokens, at)?;
+        let (more, after) = statement_at(alloc, all, words, tokens, at)?;
         all = more;
         at = after;
     }

@@ -4,6 +4,7 @@ ghost use Rattle.dg_text.specs.Tokens.{toks, AreCut};
 ghost use Rattle.dg_schema.specs.Whole.{line_feeds, line_at, offset_of, schema_of, from_front, schema, Reads};
 
 use crate::grammar::statements_at;
+use crate::words::Words;
 use crate::{Schema, SchemaFault};
 use dg_text::pieces::pieces;
 use dg_text::reading::{left, peek};
@@ -50,6 +51,7 @@ fn offset_at(tokens: &[Piece], end: usize, place: usize) -> usize
 // The schema that tokens say, where they end at a place of the text.
 fn read_tokens(
     alloc: Global,
+    words: &Words,
     text: &str,
     tokens: &[Piece],
     end: usize,
@@ -57,7 +59,7 @@ fn read_tokens(
     requires { length text.now ≤ 1048576 }
     ensures { Reads result (schema_of text.now (toks tokens.now) end) }
 {
-    match statements_at(alloc, tokens, 0) {
+    match statements_at(alloc, words, tokens, 0) {
         Ok((all, at)) => {
             let place = left(tokens, at);
             if place == 0 && end == text.len() {
@@ -79,6 +81,7 @@ fn read_tokens(
 #[tactic(auto, using(crate::proofs::Lines::left_from))]
 fn read_front(
     alloc: Global,
+    words: &Words,
     text: &str,
     tokens: &[Token],
     end: usize,
@@ -89,7 +92,7 @@ fn read_front(
     ensures { Reads result (from_front text.now (Ok (tokens.now, drop end text.now))) }
 {
     match pieces(alloc, text, tokens) {
-        Ok(all) => read_tokens(alloc, text, all.as_slice(), end),
+        Ok(all) => read_tokens(alloc, words, text, all.as_slice(), end),
         Err(AllocError) => Err(SchemaFault::OutOfMemory),
     }
 }
@@ -103,7 +106,7 @@ pub fn read_schema(alloc: Global, text: &str) -> Result<Schema, SchemaFault>
     ensures { Reads result (schema text.now) }
 {
     match front(alloc, text.as_bytes()) {
-        Ok((tokens, end)) => read_front(alloc, text, tokens.as_slice(), end),
+        Ok((tokens, end)) => read_front(alloc, &Words::new(), text, tokens.as_slice(), end),
         Err(ReadError::OutOfMemory) => Err(SchemaFault::OutOfMemory),
         Err(ReadError::Fault { left }) => Err(SchemaFault::SchemaSyntax {
             line: line_of(text, text.len().saturating_sub(left)),

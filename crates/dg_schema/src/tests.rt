@@ -63,27 +63,106 @@ fn copies_are_equal(rt: HostRuntime) -> Result<(), Fail> {
     Ok(())
 }
 
-// Texts that are no schema, each with the line of its fault.
-const REFUSED: [(&str, u32); 18] = [
-    ("a: int .\na: int .", 2),
-    ("count: int .", 1),
-    ("<a.b>: int @upsert .\n", 1),
-    ("a: int\n\n;", 3),
-    ("a: int # .\n\n", 3),
-    ("\n<1a>: int .", 2),
-    ("a:\ntext .", 2),
-    ("a\n: int @index(int, int)\n.", 1),
-    ("a: string @index(exact,\nterm) @index .\n", 1),
-    ("\na: [uid] @index .", 2),
-    ("a: string @index .", 1),
-    ("a: int @index(exact) .", 1),
-    ("a: int @reverse .", 1),
-    ("a: int @index(\n) .", 2),
-    ("a: int\n@lang .", 2),
-    ("a: int .\nb: int @count\n@count .\nc", 2),
-    ("a: default @index(hash) .", 1),
-    ("a: int .\n.", 2),
-];
+// Texts that are no schema, each behind the line of its fault and a blank, with `&` between.
+const REFUSED: &str = "\
+    2 \nuid\n: int .&\
+    2 \ncount\n: int .&\
+    2 \nval\n: int .&\
+    2 \nmin\n: int .&\
+    2 \nmax\n: int .&\
+    2 \nsum\n: int .&\
+    2 \nas\n: int .&\
+    2 \nexpand\n: int .&\
+    1 <uid>\n: int .&\
+    1 uid: int .\n;&\
+    2 a: int .\na\n: string .&\
+    2 a: int .\n<a>\n: int .&\
+    1 a\n: int @index\n@index .&\
+    1 a\n: [uid] @reverse\n@reverse .&\
+    1 a\n: int @count\n@count .&\
+    1 a\n: int @index @upsert\n@upsert .&\
+    1 a\n: int @index(int)\n@count @index(int) .&\
+    1 a\n: string @index(exact,\nexact) .&\
+    1 a\n: string @index(hash, term,\nhash) .&\
+    1 a\n: int @index(exact) .&\
+    1 a\n: bool @index(hash) .&\
+    1 a\n: dateTime @index(term) .&\
+    1 a\n: int @index(trigram) .&\
+    1 a\n: string @index(int) .&\
+    1 a\n: string @index(bool) .&\
+    1 a\n: int @index(year) .&\
+    1 a\n: string @index(month) .&\
+    1 a\n: bool @index(day) .&\
+    1 a\n: int @index(hour) .&\
+    1 a\n: dateTime @index(year,\nint) .&\
+    1 a\n: default @index .&\
+    1 a\n: default @index(hash) .&\
+    1 a\n: [uid] @index .&\
+    1 a\n: uid @index(int) .&\
+    1 a\n: string @index .&\
+    1 a\n: [string] @index @count .&\
+    1 a\n: default @reverse .&\
+    1 a\n: string @reverse .&\
+    1 a\n: int @reverse .&\
+    1 a\n: bool @reverse .&\
+    1 a\n: [dateTime] @reverse .&\
+    1 a\n: int @upsert .&\
+    1 <a.b>\n: int @upsert @count .&\
+    1 a\n: uid @reverse @upsert .&\
+    2 a: int .\nb\n: int @count\n@count .\nc&\
+    2 \n<1a>: int .&\
+    2 \n<a-b>: int .&\
+    2 \n<a.>: int .&\
+    2 a: int .\n.&\
+    2 a: int .\n7: int .&\
+    2 a: int .\n@count .&\
+    2 a\n7: int .&\
+    2 a\nb: int .&\
+    2 a:\ntext .&\
+    2 a:\nInt .&\
+    2 a:\nDatetime .&\
+    2 a:\n<int> .&\
+    2 a:\n.&\
+    2 a:\nint.b .&\
+    2 a: [\n[int]] .&\
+    2 a: [\n] .&\
+    2 a: [int\n, int] .&\
+    2 a: [int\n.&\
+    2 a: int\n] .&\
+    2 a: int @index(\n) .&\
+    2 a: int @index(int\n.&\
+    2 a: string @index(exact\nterm) .&\
+    2 a: string @index(exact,\n) .&\
+    2 a: string @index(\nexacts) .&\
+    2 a: string @index(\nstring) .&\
+    2 a: int @index\n[int] .&\
+    2 a: int\n@lang .&\
+    2 a: int\n@indexes .&\
+    2 a: int\n@Index .&\
+    2 a: int\n, .&\
+    2 a: int\n(int) .&\
+    2 a: int\nb: int .&\
+    1 a&\
+    1 a:&\
+    3 a: int\n\n&\
+    1 a: int # .&\
+    2 a: int # .\n&\
+    3 a: int # .\n\n&\
+    2 a: int .\nb # : int .&\
+    1 a.\n: int .&\
+    2 \na..b\n: int .&\
+    2 a: int .\n.b: int .&\
+    3 a: int\n\n;&\
+    2 a: int .\n;&\
+    2 a: int .\n= b&\
+    2 a: int\n@ index .&\
+    2 a: int .\n<b c>: int .&\
+    2 a: int .\n\"b&\
+    2 a: int .\né: int .&\
+    2 a: int .\n-";
+
+// A name of 64 bytes, which is the most that a name has.
+const LONG: &str = "a23456789.123456789.123456789.123456789.123456789.123456789.1234";
 
 // Of all kinds and directives, in the order of the names.
 const PRINTED: &str =
@@ -92,6 +171,11 @@ const PRINTED: &str =
 // The same otherwise written.
 const WRITTEN: &str =
     "t: dateTime @index(hour, day) @upsert .\n<a.b>: [uid] @count @reverse.\nn: int @index .\nb: datetime @index .\ns: string @upsert @index(trigram,exact) .\nd: default .\nf: [bool] @index # the end\n.";
+
+// Whether a text is a schema.
+fn is_read(alloc: Global, text: &str) -> bool {
+    text.len() <= 1_048_576 && read_schema(alloc, text).is_ok()
+}
 
 // The line at which a text is refused.
 fn refused(alloc: Global, text: &str) -> Option<u32> {
@@ -106,8 +190,17 @@ fn refused(alloc: Global, text: &str) -> Option<u32> {
 
 #[test]
 fn faults_have_their_lines(rt: HostRuntime) -> Result<(), Fail> {
-    for (text, line) in REFUSED {
-        assert_eq!(rt; refused(rt.alloc(), text), Some(line));
+    for case in REFUSED.split('&') {
+        match case.split_once(' ') {
+            Some((line, text)) => {
+                assert_eq!(rt;
+                    refused(rt.alloc(), text),
+                    line.parse::<u32>().ok(),
+                    "at {text:?}"
+                );
+            }
+            None => assert!(rt; false),
+        }
     }
     let text = format!(in rt.alloc(); "{}", SchemaFault::SchemaSyntax { line: 7 })?;
     assert_eq!(rt; text.as_str(), "no schema by line 7");
@@ -124,5 +217,19 @@ fn schemas_are_read_and_printed(rt: HostRuntime) -> Result<(), Fail> {
     assert_eq!(rt; place(&again, "a.b"), Some(0));
     assert_eq!(rt; again.text_of()?.as_str(), PRINTED);
     assert!(rt; read_schema(alloc, "")?.definitions().is_empty());
+    Ok(())
+}
+
+#[test]
+fn names_have_at_most_64_bytes(rt: HostRuntime) -> Result<(), Fail> {
+    let alloc = rt.alloc();
+    let whole = format!(in alloc; "a: int .\n{LONG}: int . # the end")?;
+    assert!(rt; is_read(alloc, whole.as_str()));
+    let between = format!(in alloc; "a: int .\n<{LONG}>: int .")?;
+    assert!(rt; is_read(alloc, between.as_str()));
+    let longer = format!(in alloc; "a: int .\n{LONG}5: int .")?;
+    assert_eq!(rt; refused(alloc, longer.as_str()), Some(2));
+    let longer = format!(in alloc; "a: int .\n<{LONG}5>: int .")?;
+    assert_eq!(rt; refused(alloc, longer.as_str()), Some(2));
     Ok(())
 }

@@ -1,0 +1,18 @@
+use Rattle.std.proofs.Common.{◌≡◌, ◌∙◌, sym, ap, refl, rules}
+use Rattle.std.specs.Prelude.{slice_get}
+use Rattle.std.specs.Option.{option_and_then}
+use Rattle.dg_schema.specs.Words.{kind_words}
+use Rattle.dg_schema.specs.declared.words.TheConstants.{KINDS}
+use Rattle.dg_schema.proofs.WordTables.{means}
+use Rattle.dg_schema.proofs.words.Words.kind_named.Goals as goal
+
+pub returns-in_err-code : goal.returns-in_err-code
+returns-in_err-code c =
+    c.from_residual.ensures ∙ ap (option_and_then (slice_get KINDS)) (sym c.in_err-code.was)
+    ∙ means (slice_get KINDS) _ kind_words c.self.inside.kinds c.args.word.now c.find.result c.self.invariant.0 refl c.find.ensures.answer
+
+pub returns : goal.returns
+returns c =
+    let read : c.copied.result ≡ slice_get KINDS c.in_ok-code.code = search rules in
+    read ∙ ap (option_and_then (slice_get KINDS)) (sym c.in_ok-code.was)
+    ∙ means (slice_get KINDS) _ kind_words c.self.inside.kinds c.args.word.now c.find.result c.self.invariant.0 refl c.find.ensures.answer
