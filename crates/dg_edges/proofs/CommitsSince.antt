@@ -131,9 +131,9 @@ reached_begun n g e start l is d =
 later_key : (start ts : ℕ) (b : Bool) → start < ts → (nat_lt start ts && b) ≡ false → b ≡ false
 later_key start ts b lt e = let late : nat_lt start ts ≡ true = grind (arith, common_steps) in cc
 
-reached_committed : (n : ℕ) (g : List Entry) (author start other : ℕ) (preds : List (List ℕ)) (keys : List ConflictKey) (written : Record) → IsLegal n g → Fits n g author (Commit other preds keys written) → IsPlain (schema g) → IsReached g start → IsReached (g ++ (record { author = author; event = Commit other preds keys written }) ∷ []) start
-reached_committed n g author start other preds keys written l f plain r =
-    let e : Entry = record { author = author; event = Commit other preds keys written } in
+reached_committed : (n : ℕ) (g : List Entry) (author start other : ℕ) (preds : List (List ℕ)) (keys : List ConflictKey) (asked : List Change) (written : Record) → IsLegal n g → Fits n g author (Commit other preds keys asked written) → IsPlain (schema g) → IsReached g start → IsReached (g ++ (record { author = author; event = Commit other preds keys asked written }) ∷ []) start
+reached_committed n g author start other preds keys asked written l f plain r =
+    let e : Entry = record { author = author; event = Commit other preds keys asked written } in
     let d : Done = record { changes = changes_of written.parts; keys = keys } in
     let now : world (g ++ e ∷ []) ≡ record { schema = schema g; graph = after_changes (schema g) (world g).graph (changes_of written.parts) } = world_push g e in
     let same = schemas_stay n g other author l f.active in
@@ -193,8 +193,8 @@ reached_after n g author start of (Begin begun) l f r h plain = by (begun_or_bef
     by : (is_active_of (active g) start of ≡ true) ⊎ (start ≡ begun) → IsReached (g ++ (record { author = author; event = Begin begun }) ∷ []) start
     by (inl k) = reached_still n g (record { author = author; event = Begin begun }) start f refl (r k plain)
     by (inr is) = reached_begun n g (record { author = author; event = Begin begun }) start (legal_push n g (record { author = author; event = Begin begun }) l f) (is ∙ f.0) refl
-reached_after n g author start of (Commit other preds keys written) l f r h plain =
-    reached_committed n g author start other preds keys written l f plain (r (was_active (active g) other start of h) plain)
+reached_after n g author start of (Commit other preds keys asked written) l f r h plain =
+    reached_committed n g author start other preds keys asked written l f plain (r (was_active (active g) other start of h) plain)
 reached_after n g author start of (Refused other reason) l f r h plain = reached_still n g (record { author = author; event = Refused other reason }) start f refl (r (was_active (active g) other start of h) plain)
 reached_after n g author start of (End other) l f r h plain = reached_still n g (record { author = author; event = End other }) start f refl (r (was_active (active g) other start of h) plain)
 reached_after n g author start of (Alter begun newer written) l f r h plain =

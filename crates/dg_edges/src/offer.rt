@@ -12,7 +12,7 @@ use dg_zero::Offer;
 use std::alloc::Global;
 
 /// The offer to commit changes of a transaction with this start, which saw the graph of the snapshot there. It is
-/// sound where there is a change. The error is want of memory.
+/// sound where there is a change. The changes are copied. The error is want of memory.
 pub fn offer_of<S: Snapshot>(alloc: Global, snap: &S, start: u64, changes: &[Change]) -> Mem<Offer>
     requires plain { IsPlain (S.declared snap.now) }
     requires fitting { AreFitting (S.declared snap.now) changes.now }
@@ -21,8 +21,10 @@ pub fn offer_of<S: Snapshot>(alloc: Global, snap: &S, start: u64, changes: &[Cha
     ensures preds { IfOk result (λ offer. offer.preds ≡ preds_of changes.now) }
     ensures keys { IfOk result (λ offer. offer.keys ≡ conflict_keys (S.declared snap.now) (S.graph snap.now) changes.now) }
     ensures parts { IfOk result (λ offer. offer.parts ≡ deltas (S.declared snap.now) (S.graph snap.now) changes.now) }
+    ensures changes { IfOk result (λ offer. offer.changes ≡ changes.now) }
     ensures sound { changes.now ≢ [] → IfOk result (λ offer. IsSound (S.declared snap.now) (S.graph snap.now) offer.preds offer.keys offer.parts) }
 {
+    let asked = List::from_vec(copies(alloc, changes)?);
     let preds = List::from_vec(preds_of(alloc, changes)?);
     let keys = List::from_vec(conflict_keys(alloc, snap, changes)?);
     let parts = List::from_vec(deltas_of(alloc, snap, changes)?);
@@ -30,6 +32,28 @@ pub fn offer_of<S: Snapshot>(alloc: Global, snap: &S, start: u64, changes: &[Cha
         start,
         preds,
         keys,
+        changes: asked,
         parts,
     })
+}
+
+// An equal change.
+fn copy_of(alloc: Global, change: &Change) -> Mem<Change>
+    ensures { IfOk result (λ copy. copy ≡ change.now) }
+{
+    match change {
+        Change::Set(triple) => Ok(Change::Set(triple.copy(alloc)?)),
+        Change::Del(triple) => Ok(Change::Del(triple.copy(alloc)?)),
+    }
+}
+
+// Equal changes, in their order.
+fn copies(alloc: Global, changes: &[Change]) -> Mem<Vec<Change>>
+    ensures { IfOk result (λ copies. copies.items ≡ changes.now) }
+{
+    let mut copies = Vec::with_capacity(alloc, changes.len())?;
+    for change in changes {
+        copies.push(copy_of(alloc, change)?)?;
+    }
+    Ok(copies)
 }

@@ -152,6 +152,7 @@ fn an_offer_of_four_changes(rt: HostRuntime) -> Result<(), Fail> {
     assert!(rt; are_fitting(&schema, changes.as_slice()));
     let offer = offer_of(alloc, &Plain { schema, graph }, 7, changes.as_slice())?;
     assert_eq!(rt; offer.start, 7);
+    assert_eq!(rt; offer.changes.len(), changes.len());
     assert!(rt; are_preds(offer.preds.as_slice()));
     assert!(rt; are_parts(offer.parts.as_slice()));
     let keys = texts(alloc, offer.keys.as_slice())?;

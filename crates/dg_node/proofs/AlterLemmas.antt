@@ -1,46 +1,81 @@
--- An alter of one string predicate changes no list, where all predicates are so.
-use Rattle.std.proofs.Common.{◌≡◌, ℕ, ◌≤◌, Bool, true, false, cond, List, [], ◌∷◌, Option, Some, None, refl, ap, subst, sym, ◌∙◌, arith}
-use Rattle.std.specs.Prelude.{◌==◌, ◌||◌, fold, map, min}
-use Rattle.std.specs.List.{AllByRecursion}
+-- An alter of definitions without directives changes no list.
+use Rattle.std.proofs.Common.{◌≡◌, ℕ, ◌≤◌, Bool, true, false, cond, not, List, [], ◌∷◌, Option, Some, None, refl, ap, subst, sym, ◌∙◌, arith, true≢false}
+use Rattle.std.specs.Prelude.{◌==◌, ◌&&◌, ◌||◌, nat_lt, fold, map, min, length, find, option_map}
+use Rattle.std.specs.Bool.{beq}
+use Rattle.std.specs.List.{AllByRecursion, list_any}
+use Rattle.std.specs.Option.{option_or, option_map_or}
 use Rattle.std.proofs.lemmas.Grind.{common_steps}
 use Rattle.dg_values.specs.Order.{same_text}
+use Rattle.dg_values.specs.declared.kind.Tokenizer.{Tokenizer}
 use Rattle.dg_delta.specs.Ops.{changes_between}
 use Rattle.dg_schema.specs.declared.definition.PredDef.{PredDef}
-use Rattle.dg_schema.specs.Definitions.{definition_of, with_definition}
-use Rattle.dg_schema.proofs.Names.{same_text-equal}
-use Rattle.dg_schema.proofs.Joining.{definition_with}
+use Rattle.dg_schema.specs.Definitions.{definition_of, with_definitions, AreDistinct}
+use Rattle.dg_schema.proofs.Joining.{definition_joined}
 use Rattle.dg_graph.specs.declared.change.Triple.{Triple}
-use Rattle.dg_graph.specs.Graphs.{is_of_subject, fits, fits_by, objects}
+use Rattle.dg_graph.specs.Graphs.{is_of, is_of_subject, fits, fits_by, objects}
 use Rattle.dg_graph.proofs.GraphLaws.{same_subject}
 use Rattle.dg_keys.specs.declared.key.Key.{Key}
 use Rattle.dg_keys.specs.declared.key.Key.TheVariants.{Data, Index, Reverse, Count, RCount}
 use Rattle.dg_keys.specs.Keys.{pred_of}
+use Rattle.dg_edges.specs.Deltas.{IsPlain, IsPlainDefinition}
 use Rattle.dg_oracle.specs.Commits as oracle
 use Rattle.dg_zero.specs.Listings.{listing, listing_by}
-use Rattle.dg_zero.specs.States.{Zero, AreAlterParts, KeepKinds, IsLeastStart}
-use Rattle.dg_zero.specs.Legal.{KeepsKind}
+use Rattle.dg_zero.specs.States.{Zero, AreAlterParts, IsLeastStart}
+use Rattle.dg_zero.specs.Legal.{KeepsKind, kind_rank}
 use Rattle.dg_zero.specs.Counters.{active, starts_of, line}
-use Rattle.dg_zero.specs.Worlds.{world, schema}
+use Rattle.dg_zero.specs.Worlds.{World, world, world_at, schema}
 use Rattle.dg_zero.proofs.EmptyOffers.{no_changes}
 use Rattle.dg_zero.proofs.LawfulGraphs.{present_lawful}
-use Rattle.dg_zero.proofs.LawsOfHistories.{line_stays_below}
+use Rattle.dg_zero.proofs.LawsOfHistories.{line_stays_below, present_is_last}
 use Rattle.dg_node.specs.declared.engine.Opened.{Opened}
-use Rattle.dg_node.specs.Alters.{string_definition, least_start}
-use Rattle.dg_node.specs.Kept.{IsString, IsKept}
-use Rattle.dg_node.specs.Machine.{Session}
+use Rattle.dg_node.specs.Alters.{has_directive, is_other_kind, has_data, first_with_data, present_schema, present_graph, least_start}
+use Rattle.dg_node.specs.Kept.{IsKept}
+use Rattle.dg_node.specs.Machine.{Machine, Session}
+use Rattle.dg_node.specs.Schemas.{Alter, schema_at}
 use Rattle.dg_node.specs.State.{session_from}
-use Rattle.dg_node.proofs.KeptLemmas.{starts_of_open}
+use Rattle.dg_node.proofs.Standing.{StandFor}
+use Rattle.dg_node.proofs.KeptLemmas.{starts_of_open, none_open}
+use Rattle.dg_node.proofs.MachineLemmas.{schemas_are}
 
--- what is found among strings is the string predicate of that name
-pub found_string : (ds : List PredDef) (p : List ℕ) (old : PredDef) → AllByRecursion IsString ds → definition_of ds p ≡ Some old → old ≡ string_definition p
-found_string [] p old a e = absurd (cc)
-found_string (d ∷ ds) p old a e = by (same_text d.name p) refl e (λ h. found_string ds p old a.1 h)
+-- ---- definitions without directives
+
+or_first : (x y : Bool) → (x || y) ≡ false → x ≡ false
+or_first true y e = e
+or_first false y e = refl
+
+or_second : (x y : Bool) → (x || y) ≡ false → y ≡ false
+or_second true y e = absurd (cc)
+or_second false y e = e
+
+none_left : (ts : List Tokenizer) → nat_lt 0 (length ts) ≡ false → ts ≡ []
+none_left [] e = refl
+none_left (t ∷ ts) e =
+    let some : nat_lt 0 (length (t ∷ ts)) ≡ true = grind (arith, common_steps) in
+    absurd (true≢false (sym some ∙ e))
+
+plain_one : (d : PredDef) → has_directive d ≡ false → IsPlainDefinition d
+plain_one d e =
+    let flags = or_second (nat_lt 0 (length d.tokens)) (d.reverse || (d.count || d.upsert)) e in (
+      none_left d.tokens (or_first (nat_lt 0 (length d.tokens)) (d.reverse || (d.count || d.upsert)) e),
+      or_first d.reverse (d.count || d.upsert) flags,
+      or_first d.count d.upsert (or_second d.reverse (d.count || d.upsert) flags),
+    )
+
+pub plain_all : (ds : List PredDef) → list_any has_directive ds ≡ false → IsPlain ds
+plain_all [] e = tt
+plain_all (d ∷ ds) e =
+    (plain_one d (or_first (has_directive d) (list_any has_directive ds) e), plain_all ds (or_second (has_directive d) (list_any has_directive ds) e))
+
+-- what is found among plain definitions is plain
+found_plain : (ds : List PredDef) (p : List ℕ) (d : PredDef) → IsPlain ds → definition_of ds p ≡ Some d → IsPlainDefinition d
+found_plain [] p d a e = absurd (cc)
+found_plain (first ∷ ds) p d a e = by (same_text first.name p) refl e (found_plain ds p d a.1)
   where
-    by : (v : Bool) → same_text d.name p ≡ v → cond v (Some d) (definition_of ds p) ≡ Some old → (definition_of ds p ≡ Some old → old ≡ string_definition p) → old ≡ string_definition p
-    by true same h more =
-        let it : d ≡ old = cc in
-        sym it ∙ (a.0 ∙ ap string_definition (same_text-equal d.name p same))
+    by : (v : Bool) → same_text first.name p ≡ v → cond v (Some first) (definition_of ds p) ≡ Some d → (definition_of ds p ≡ Some d → IsPlainDefinition d) → IsPlainDefinition d
+    by true same h more = let it : first ≡ d = cc in subst IsPlainDefinition it a.0
     by false same h more = more h
+
+-- ---- they change no list
 
 -- a predicate that isn't declared has no object
 none_listed : (schema : List PredDef) (graph : List Triple) (p : List ℕ) (s : ℕ) → definition_of schema p ≡ None → AllByRecursion (λ t. fits schema t ≡ true) graph → objects graph p s ≡ []
@@ -57,39 +92,79 @@ none_listed schema (t ∷ graph) p s none a =
     by false e = refl
 
 -- nor does its key list anything once it is declared
-newly_listed : (schema : List PredDef) (graph : List Triple) (name : List ℕ) (key : Key) → pred_of key ≡ name → definition_of schema name ≡ None → AllByRecursion (λ t. fits schema t ≡ true) graph → listing_by (Some (string_definition name)) graph key ≡ []
-newly_listed schema graph name (Data p s) e none a = none_listed schema graph p s (ap (definition_of schema) e ∙ none) a
-newly_listed schema graph name (Index p t) e none a = refl
-newly_listed schema graph name (Reverse p o) e none a = refl
-newly_listed schema graph name (Count p n) e none a = refl
-newly_listed schema graph name (RCount p n) e none a = refl
+newly_listed : (schema : List PredDef) (graph : List Triple) (d : PredDef) (key : Key) → IsPlainDefinition d → definition_of schema (pred_of key) ≡ None → AllByRecursion (λ t. fits schema t ≡ true) graph → listing_by (Some d) graph key ≡ []
+newly_listed schema graph d (Data p s) plain none a = none_listed schema graph p s none a
+newly_listed schema graph d (Index p t) plain none a = rw plain.0 refl
+newly_listed schema graph d (Reverse p o) plain none a = rw plain.1 refl
+newly_listed schema graph d (Count p n) plain none a = rw plain.2 refl
+newly_listed schema graph d (RCount p n) plain none a = rw plain.1 refl
 
-listing_stays : (schema : List PredDef) (graph : List Triple) (name : List ℕ) (key : Key) → AllByRecursion IsString schema → AllByRecursion (λ t. fits schema t ≡ true) graph → listing schema graph key ≡ listing (with_definition schema (string_definition name)) graph key
-listing_stays schema graph name key strings fit =
-    sym (ap (λ (o : Option PredDef). listing_by o graph key) (definition_with schema (string_definition name) (pred_of key)) ∙ by (same_text name (pred_of key)) refl)
+-- and plain definitions of one name list the same
+both_listed : (graph : List Triple) (d old : PredDef) (key : Key) → IsPlainDefinition d → IsPlainDefinition old → listing_by (Some d) graph key ≡ listing_by (Some old) graph key
+both_listed graph d old (Data p s) plain older = refl
+both_listed graph d old (Index p t) plain older = rw (plain.0, older.0) refl
+both_listed graph d old (Reverse p o) plain older = rw (plain.1, older.1) refl
+both_listed graph d old (Count p n) plain older = rw (plain.2, older.2) refl
+both_listed graph d old (RCount p n) plain older = rw (plain.1, older.1) refl
+
+listing_stays : (schema newer : List PredDef) (graph : List Triple) (key : Key) → AreDistinct newer → IsPlain newer → IsPlain schema → AllByRecursion (λ t. fits schema t ≡ true) graph → listing_by (definition_of schema (pred_of key)) graph key ≡ listing_by (definition_of (with_definitions schema newer) (pred_of key)) graph key
+listing_stays schema newer graph key distinct plain older fit =
+    sym (ap (λ (o : Option PredDef). listing_by o graph key) (definition_joined schema newer (pred_of key) distinct) ∙ by (definition_of newer (pred_of key)) refl)
   where
-    among : (o : Option PredDef) → definition_of schema (pred_of key) ≡ o → name ≡ pred_of key → listing_by (Some (string_definition name)) graph key ≡ listing_by o graph key
-    among None none e = newly_listed schema graph name key (sym e) (ap (definition_of schema) e ∙ none) fit
-    among (Some old) is e = ap (λ (d : PredDef). listing_by (Some d) graph key) (ap string_definition e ∙ sym (found_string schema (pred_of key) old strings is))
+    among : (d : PredDef) → IsPlainDefinition d → (o : Option PredDef) → definition_of schema (pred_of key) ≡ o → listing_by (Some d) graph key ≡ listing_by o graph key
+    among d is None none = newly_listed schema graph d key is none fit
+    among d is (Some old) there = both_listed graph d old key is (found_plain schema (pred_of key) old older there)
 
-    by : (v : Bool) → same_text name (pred_of key) ≡ v → listing_by (cond v (Some (string_definition name)) (definition_of schema (pred_of key))) graph key ≡ listing_by (definition_of schema (pred_of key)) graph key
-    by true same = among (definition_of schema (pred_of key)) refl (same_text-equal name (pred_of key) same)
-    by false same = refl
+    by : (o : Option PredDef) → definition_of newer (pred_of key) ≡ o → listing_by (option_or o (definition_of schema (pred_of key))) graph key ≡ listing_by (definition_of schema (pred_of key)) graph key
+    by None e = refl
+    by (Some d) e = among d (found_plain newer (pred_of key) d plain e) (definition_of schema (pred_of key)) refl
 
-pub no_alter_parts : (z : Zero) (os : List Opened) (name : List ℕ) → IsKept z os → AreAlterParts z.history (string_definition name ∷ []) []
-no_alter_parts z os name k =
+pub no_alter_parts : (z : Zero) (os : List Opened) (newer : List PredDef) → IsKept z os → AreDistinct newer → IsPlain newer → AreAlterParts z.history newer []
+no_alter_parts z os newer k distinct plain =
     let fit = (present_lawful z.groups z.history k.legal).fit in
     record {
       parts_are = record { ascend = tt; each = tt };
-      exact = λ key. sym (ap (changes_between (listing (schema z.history) (world z.history).graph key)) (sym (listing_stays (schema z.history) (world z.history).graph name key k.strings fit)) ∙ no_changes (listing (schema z.history) (world z.history).graph key));
+      exact = λ key. sym (ap (changes_between (listing (schema z.history) (world z.history).graph key)) (sym (listing_stays (schema z.history) newer (world z.history).graph key distinct plain k.plain fit)) ∙ no_changes (listing (schema z.history) (world z.history).graph key));
     }
 
-pub kinds_kept : (z : Zero) (os : List Opened) (name : List ℕ) → IsKept z os → KeepKinds z.history (string_definition name ∷ [])
-kinds_kept z os name k = (by (definition_of (schema z.history) name) refl, tt)
+-- ---- where no data stands in the way, kinds are kept
+
+not_both : (x y : Bool) → (x && y) ≡ false → y ≡ true → x ≡ false
+not_both true y e h = absurd (cc)
+not_both false y e h = refl
+
+not_false : (x : Bool) → not x ≡ false → x ≡ true
+not_false true e = refl
+not_false false e = absurd (cc)
+
+both_true : (x y : Bool) → (x && y) ≡ true → (x ≡ true) × (y ≡ true)
+both_true true y e = (refl, e)
+both_true false y e = absurd (cc)
+
+same_bools : (x y : Bool) → beq x y ≡ true → x ≡ y
+same_bools true true e = refl
+same_bools false false e = refl
+same_bools true false e = absurd (cc)
+same_bools false true e = absurd (cc)
+
+keeps_one : (declared : List PredDef) (graph : List Triple) (d : PredDef) → has_data declared graph d ≡ false → KeepsKind graph d (definition_of declared d.name)
+keeps_one declared graph d e = by (definition_of declared d.name) e
   where
-    by : (o : Option PredDef) → definition_of (schema z.history) name ≡ o → KeepsKind (world z.history).graph (string_definition name) o
-    by None e = tt
-    by (Some old) e = λ there. subst (λ (d : PredDef). KeepsKind (world z.history).graph (string_definition name) (Some d)) (sym (found_string (schema z.history) name old k.strings e)) (λ h. (refl, refl)) there
+    by : (o : Option PredDef) → (option_map_or (is_other_kind d) o false && list_any (is_of d.name) graph) ≡ false → KeepsKind graph d o
+    by None h = tt
+    by (Some old) h = λ there.
+        let same = not_false ((kind_rank d.kind == kind_rank old.kind) && beq d.list old.list) (not_both (not ((kind_rank d.kind == kind_rank old.kind) && beq d.list old.list)) (list_any (is_of d.name) graph) h there) in
+        let two = both_true (kind_rank d.kind == kind_rank old.kind) (beq d.list old.list) same in
+        let ranks : kind_rank d.kind ≡ kind_rank old.kind = let equal : (kind_rank d.kind == kind_rank old.kind) ≡ true = two.0 in grind (arith, common_steps) in
+        (ranks, same_bools d.list old.list two.1)
+
+pub kinds_kept : (declared : List PredDef) (graph : List Triple) (newer : List PredDef) → first_with_data declared graph newer ≡ None → AllByRecursion (λ d. KeepsKind graph d (definition_of declared d.name)) newer
+kinds_kept declared graph [] e = tt
+kinds_kept declared graph (d ∷ newer) e = by (has_data declared graph d) refl e (kinds_kept declared graph newer)
+  where
+    by : (v : Bool) → has_data declared graph d ≡ v → option_map (λ (f : PredDef). f.name) (cond v (Some d) (find (has_data declared graph) newer)) ≡ None → (first_with_data declared graph newer ≡ None → AllByRecursion (λ f. KeepsKind graph f (definition_of declared f.name)) newer) → AllByRecursion (λ f. KeepsKind graph f (definition_of declared f.name)) (d ∷ newer)
+    by true is h more = absurd (cc)
+    by false is h more = (keeps_one declared graph d is, more h)
 
 -- ---- the least start of open transactions
 
@@ -123,3 +198,23 @@ least_open z os start k is = by os (starts_of_open z os k)
         let ascend = subst (λ (xs : List ℕ). oracle.Ascends (line z.history) xs) e (line_stays_below z.groups z.history k.legal).starts in
         let first : o.start ≡ start = first_is start o.start (line z.history) (map (λ (p : Opened). p.start) ps) least.0 ascend found in
         ap (λ (x : ℕ). Some x) (fold_least o.start o.start ps (omega arith) ascend.1 ∙ first)
+
+-- ---- the machine's present schema and graph
+
+pub present_schema_is : (z : Zero) (os : List Opened) (m : Machine) → IsKept z os → StandFor z os m → present_schema m ≡ schema z.history
+present_schema_is z os m k s =
+    let now : world_at z.history m.next ≡ world z.history = present_is_last z.groups z.history m.next k.legal (omega (arith, s.next_is)) in
+    ap (λ (l : List Alter). schema_at l m.next) s.alters_are ∙ (schemas_are z.history m.next ∙ ap (λ (w : World). w.schema) now)
+
+pub present_graph_is : (z : Zero) (os : List Opened) (m : Machine) → IsKept z os → StandFor z os m → present_graph m ≡ (world z.history).graph
+present_graph_is z os m k s =
+    let now : world_at z.history m.next ≡ world z.history = present_is_last z.groups z.history m.next k.legal (omega (arith, s.next_is)) in
+    s.graphs_are m.next ∙ ap (λ (w : World). w.graph) now
+
+-- what stands in the way of definitions is the same for both
+pub same_data : (z : Zero) (os : List Opened) (m : Machine) (newer : List PredDef) → IsKept z os → StandFor z os m → first_with_data (present_schema m) (present_graph m) newer ≡ first_with_data (schema z.history) (world z.history).graph newer
+same_data z os m newer k s = λ i. first_with_data (present_schema_is z os m k s i) (present_graph_is z os m k s i) newer
+
+-- no transaction is open
+pub none_least : (z : Zero) (os : List Opened) (m : Machine) → IsKept z os → StandFor z os m → active z.history ≡ [] → least_start m.sessions ≡ None
+none_least z os m k s none = ap least_start (s.sessions_are ∙ ap (λ (l : List Opened). map session_from l) (none_open z os k none))

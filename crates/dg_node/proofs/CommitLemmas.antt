@@ -32,24 +32,25 @@ use Rattle.dg_node.specs.Machine.{Machine}
 use Rattle.dg_node.specs.Transactions.{keys_at, refusal_by, clash_of}
 use Rattle.dg_node.specs.Committing.{IsOfferOf, clash_text}
 use Rattle.dg_node.specs.Kept.{IsKept, IsOpened}
-use Rattle.dg_node.specs.State.{session_from, StandFor}
+use Rattle.dg_node.specs.State.{session_from}
+use Rattle.dg_node.proofs.Standing.{StandFor}
 use Rattle.dg_node.proofs.MachineLemmas.{schemas_are}
 use Rattle.dg_node.proofs.StandLemmas.{IsQuiet, IsCommittedAs}
-use Rattle.dg_node.proofs.KeptLemmas.{Ends, active_here, opened_here, strings_plain}
+use Rattle.dg_node.proofs.KeptLemmas.{Ends, active_here, opened_here}
 
 -- ---- events
 
 pub look_quiet : IsQuiet Look
-look_quiet = record { no_alter = refl; no_commit = refl; same_world = λ w. refl }
+look_quiet = record { no_alter = refl; no_commit = refl; none_asked = refl; same_world = λ w. refl }
 
 pub begin_quiet : (start : ℕ) → IsQuiet (Begin start)
-begin_quiet start = record { no_alter = refl; no_commit = refl; same_world = λ w. refl }
+begin_quiet start = record { no_alter = refl; no_commit = refl; none_asked = refl; same_world = λ w. refl }
 
 pub end_quiet : (start : ℕ) → IsQuiet (End start)
-end_quiet start = record { no_alter = refl; no_commit = refl; same_world = λ w. refl }
+end_quiet start = record { no_alter = refl; no_commit = refl; none_asked = refl; same_world = λ w. refl }
 
 pub refused_quiet : (start : ℕ) (reason : Reason) → IsQuiet (Refused start reason)
-refused_quiet start reason = record { no_alter = refl; no_commit = refl; same_world = λ w. refl }
+refused_quiet start reason = record { no_alter = refl; no_commit = refl; none_asked = refl; same_world = λ w. refl }
 
 pub end_ends : (start : ℕ) → Ends (End start) start
 end_ends start = record { still = record { schema_stays = λ w. refl; places_stay = λ s. refl }; ends = λ starts author. refl }
@@ -132,10 +133,11 @@ module _ (z : Zero) (os before after : List Opened) (o : Opened) (k : IsKept z o
     committed_as h = record {
       legal = k.legal;
       start_is = is.start_is;
+      changes_same = is.changes_are;
       start_drawn = subst (λ (n : ℕ). o.start < n) (sym s.next_is) opened.drawn;
       keys_same = is.keys_are;
       parts_do = histories_do_as_changes z.groups z.history 0 o.start offer.preds offer.keys o.own k.legal
-          (subst IsPlain (sym schema_there) (strings_plain (schema z.history) k.strings))
+          (subst IsPlain (sym schema_there) k.plain)
           (active_here z os before after o k e)
           (subst (λ (ds : List PredDef). AreFitting ds o.own) (sym schema_there) opened.fitting)
           is.keys_are

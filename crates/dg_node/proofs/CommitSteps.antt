@@ -22,7 +22,8 @@ use Rattle.dg_node.specs.Machine.{Machine, without_session, drawn}
 use Rattle.dg_node.specs.Transactions.{committed, with_commit}
 use Rattle.dg_node.specs.Committing.{IsOfferOf, clash_text}
 use Rattle.dg_node.specs.Kept.{IsKept}
-use Rattle.dg_node.specs.State.{session_from, StandFor}
+use Rattle.dg_node.specs.State.{session_from}
+use Rattle.dg_node.proofs.Standing.{StandFor}
 use Rattle.dg_node.proofs.OneAmong.{Around, it_is}
 use Rattle.dg_node.proofs.KeptLemmas.{Ends, active_here}
 use Rattle.dg_node.proofs.CommitLemmas.{refused_quiet, refused_ends, commit_ends, never_moving, clear, clashes, committed_as}

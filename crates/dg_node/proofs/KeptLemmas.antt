@@ -6,7 +6,7 @@ use Rattle.std.specs.Arc.{arc_value}
 use Rattle.std.proofs.lemmas.List.{map-append}
 use Rattle.std.proofs.lemmas.Grind.{common_steps}
 use Rattle.dg_schema.specs.declared.definition.PredDef.{PredDef}
-use Rattle.dg_schema.specs.Definitions.{is_named, is_declared, replaced, with_definition}
+use Rattle.dg_schema.specs.Definitions.{is_named, is_declared, replaced, with_definition, with_definitions}
 use Rattle.dg_keys.specs.declared.record.Part.{Part}
 use Rattle.dg_keys.specs.declared.record.Tablet.{Tablet}
 use Rattle.dg_edges.specs.Deltas.{AreFitting, IsPlain, IsPlainDefinition}
@@ -25,8 +25,7 @@ use Rattle.dg_zero.proofs.Histories.{next_push, active_push, places_push}
 use Rattle.dg_zero.proofs.LawsOfHistories.{world_push, line_stays_below}
 use Rattle.dg_zero.proofs.Kept.{IsStill}
 use Rattle.dg_node.specs.declared.engine.Opened.{Opened}
-use Rattle.dg_node.specs.Kept.{IsString, started, AreApart, IsOpened, IsKept}
-use Rattle.dg_node.specs.Alters.{string_definition}
+use Rattle.dg_node.specs.Kept.{started, AreApart, IsOpened, IsKept}
 use Rattle.dg_oracle.proofs.Oracles.{all_push}
 use Rattle.dg_node.proofs.OneAmong.{all_around, all_joined, apart_without, apart_push, apart_with, apart_ascending, without}
 use Rattle.dg_node.proofs.MachineLemmas.{all_from}
@@ -54,7 +53,7 @@ from_each : (z : Zero) (os ps : List Opened) (author : ℕ) (event : Event) → 
 from_each z os ps author event k s legal active_are apart each = record {
   legal = legal;
   idle = subst (λ (ts : List Place). AllByRecursion (λ (t : Place). t.phase ≡ Idle) ts) (sym (tablets_same z.history author event s)) k.idle;
-  strings = subst (λ (ds : List PredDef). AllByRecursion IsString ds) (sym (schema_same z.history author event s)) k.strings;
+  plain = subst IsPlain (sym (schema_same z.history author event s)) k.plain;
   active_are = active_are;
   apart = apart;
   each = each;
@@ -79,12 +78,6 @@ pub starts_apart : (z : Zero) (os : List Opened) → IsKept z os → AreApart (�
 starts_apart z os k =
     apart_ascending (λ (o : Opened). o.start) (line z.history) os
     (subst (λ (xs : List ℕ). oracle.Ascends (line z.history) xs) (starts_of_open z os k) (line_stays_below z.groups z.history k.legal).starts)
-
--- ---- the schema is plain
-
-pub strings_plain : (ds : List PredDef) → AllByRecursion IsString ds → IsPlain ds
-strings_plain [] a = tt
-strings_plain (d ∷ ds) a = (subst IsPlainDefinition (sym a.0) (refl, refl, refl), strings_plain ds a.1)
 
 -- ---- one open transaction among the others
 
@@ -156,7 +149,7 @@ changed_kept z os before after o p k e sid start is =
     record {
       legal = k.legal;
       idle = k.idle;
-      strings = k.strings;
+      plain = k.plain;
       active_are = k.active_are ∙ (ap (map started) e ∙ sym (same before));
       apart = apart_with (λ (q : Opened). q.sid) before after o p sid (subst (λ (l : List Opened). AreApart (λ (q : Opened). q.sid) l) e k.apart);
       each = all_joined (IsOpened z.history) before (p ∷ after) each.0 (is, each.2);
@@ -171,16 +164,21 @@ changed_kept z os before after o p k e sid start is =
 
 -- ---- an alter
 
-with_strings : (ds : List PredDef) (d : PredDef) → IsString d → AllByRecursion IsString ds → AllByRecursion IsString (with_definition ds d)
-with_strings ds d is a = by (is_declared ds d.name)
+with_plain_one : (ds : List PredDef) (d : PredDef) → IsPlainDefinition d → IsPlain ds → IsPlain (with_definition ds d)
+with_plain_one ds d is a = by (is_declared ds d.name)
   where
-    replaced_strings : (ds : List PredDef) → AllByRecursion IsString ds → AllByRecursion IsString (map (replaced d) ds)
-    replaced_strings [] a = tt
-    replaced_strings (e ∷ ds) a = (elim (is_named d.name e) as (λ b. IsString (cond b d e)) [ true ↦ is | false ↦ a.0 ], replaced_strings ds a.1)
+    replaced_plain : (ds : List PredDef) → IsPlain ds → IsPlain (map (replaced d) ds)
+    replaced_plain [] a = tt
+    replaced_plain (e ∷ ds) a = (elim (is_named d.name e) as (λ b. IsPlainDefinition (cond b d e)) [ true ↦ is | false ↦ a.0 ], replaced_plain ds a.1)
 
-    by : (v : Bool) → AllByRecursion IsString (cond v (map (replaced d) ds) (ds ++ d ∷ []))
-    by true = replaced_strings ds a
-    by false = all_push IsString ds d a is
+    by : (v : Bool) → IsPlain (cond v (map (replaced d) ds) (ds ++ d ∷ []))
+    by true = replaced_plain ds a
+    by false = all_push IsPlainDefinition ds d a is
+
+-- plain definitions joined are plain
+with_plain : (newer ds : List PredDef) → IsPlain newer → IsPlain ds → IsPlain (with_definitions ds newer)
+with_plain [] ds is a = a
+with_plain (d ∷ newer) ds is a = with_plain newer (with_definition ds d) is.1 (with_plain_one ds d is.0 a)
 
 fresh_idle : (ts : List Place) (fs : List Tablet) → AllByRecursion (λ (t : Place). t.phase ≡ Idle) ts → AllByRecursion (λ (t : Place). t.phase ≡ Idle) (ts ++ map fresh_place fs)
 fresh_idle ts fs a = all_joined (λ (t : Place). t.phase ≡ Idle) ts (map fresh_place fs) a (rest fs)
@@ -196,18 +194,17 @@ none_left (o ∷ os) e = absurd (cc)
 pub none_open : (z : Zero) (os : List Opened) → IsKept z os → active z.history ≡ [] → os ≡ []
 none_open z os k e = none_left os (sym k.active_are ∙ e)
 
-pub altered_kept : (z : Zero) (os : List Opened) (name : List ℕ) (parts : List Part) → IsKept z os → active z.history ≡ [] → IsLegal z.groups (and_entry z.history 0 (alter_of z (string_definition name ∷ []) parts)) → IsKept (and_then z 0 (alter_of z (string_definition name ∷ []) parts)) os
-altered_kept z os name parts k none legal =
-    let newer : List PredDef = string_definition name ∷ [] in
+pub altered_kept : (z : Zero) (os : List Opened) (newer : List PredDef) (parts : List Part) → IsKept z os → active z.history ≡ [] → IsPlain newer → IsLegal z.groups (and_entry z.history 0 (alter_of z newer parts)) → IsKept (and_then z 0 (alter_of z newer parts)) os
+altered_kept z os newer parts k none plain legal =
     let event : Event = alter_of z newer parts in
     let e : Entry = record { author = 0; event = event } in
     let no : os ≡ [] = none_open z os k none in
-    let schema_is : schema (and_entry z.history 0 event) ≡ with_definition (schema z.history) (string_definition name) = ap (λ (w : World). w.schema) (world_push z.history e) in
+    let schema_is : schema (and_entry z.history 0 event) ≡ with_definitions (schema z.history) newer = ap (λ (w : World). w.schema) (world_push z.history e) in
     let tablets_are : tablets (and_entry z.history 0 event) ≡ tablets z.history ++ map fresh_place (fresh z.groups (tablets z.history) newer) = ap (λ (p : Places). p.tablets) (places_push z.history e) in
     record {
       legal = legal;
       idle = subst (λ (ts : List Place). AllByRecursion (λ (t : Place). t.phase ≡ Idle) ts) (sym tablets_are) (fresh_idle (tablets z.history) (fresh z.groups (tablets z.history) newer) k.idle);
-      strings = subst (λ (ds : List PredDef). AllByRecursion IsString ds) (sym schema_is) (with_strings (schema z.history) (string_definition name) refl k.strings);
+      plain = subst IsPlain (sym schema_is) (with_plain newer (schema z.history) plain k.plain);
       active_are = active_push z.history e ∙ k.active_are;
       apart = k.apart;
       each = subst (λ (l : List Opened). AllByRecursion (IsOpened (and_entry z.history 0 event)) l) (sym no) tt;

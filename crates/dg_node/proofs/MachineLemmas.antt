@@ -24,8 +24,8 @@ use Rattle.dg_node.specs.State.{alter_of, alters, IsDrawn}
 schema_step : (at : ℕ) (w : World) (event : Event) (more : List Altered) → fold (after_alter at) w.schema (alter_of event ++ more) ≡ fold (after_alter at) (cond (nat_le (stamp event) at) (world_after w event) w).schema more
 schema_step at w (Alter start newer written) more =
     elim (nat_le written.ts at) as (λ b. fold (after_alter at) (cond b (with_definitions w.schema newer) w.schema) more ≡ fold (after_alter at) (cond b (world_after w (Alter start newer written)) w).schema more) [ true ↦ refl | false ↦ refl ]
-schema_step at w (Committed start preds keys written) more =
-    elim (nat_le written.ts at) as (λ b. fold (after_alter at) w.schema more ≡ fold (after_alter at) (cond b (world_after w (Committed start preds keys written)) w).schema more) [ true ↦ refl | false ↦ refl ]
+schema_step at w (Committed start preds keys asked written) more =
+    elim (nat_le written.ts at) as (λ b. fold (after_alter at) w.schema more ≡ fold (after_alter at) (cond b (world_after w (Committed start preds keys asked written)) w).schema more) [ true ↦ refl | false ↦ refl ]
 schema_step at w event more =
     elim (nat_le 0 at) as (λ b. fold (after_alter at) w.schema more ≡ fold (after_alter at) (cond b w w).schema more) [ true ↦ refl | false ↦ refl ]
 

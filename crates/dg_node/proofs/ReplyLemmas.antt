@@ -1,9 +1,10 @@
 -- What the machine answers, case by case.
 use Rattle.std.proofs.Common.{◌≡◌, ◌≢◌, ℕ, ◌+◌, ◌<◌, ◌≤◌, ◌^◌, ◌-◌, true, false, List, [], ◌∷◌, ◌++◌, Option, Some, None, refl, ap, sym, ◌∙◌, arith}
 use Rattle.std.specs.Prelude.{◌==◌, nat_lt, is_some, position, find}
+use Rattle.std.specs.List.{list_any}
 use Rattle.std.proofs.lemmas.Grind.{common_steps}
 use Rattle.dg_schema.specs.declared.definition.PredDef.{PredDef}
-use Rattle.dg_schema.specs.Definitions.{is_declared}
+use Rattle.dg_schema.specs.Definitions.{definition_of}
 use Rattle.dg_graph.specs.declared.change.Change.{Change}
 use Rattle.dg_wire.specs.declared.refusal.Refusal.{Refusal}
 use Rattle.dg_wire.specs.declared.refusal.Refusal.TheVariants as refusals
@@ -13,12 +14,13 @@ use Rattle.dg_zero.specs.States.{Zero}
 use Rattle.dg_node.specs.declared.engine.Opened.{Opened}
 use Rattle.dg_node.specs.Schemas.{schema_at}
 use Rattle.dg_node.specs.Machine.{Machine, Session, session_of, is_open, with_session, with_change, without_session, drawn}
-use Rattle.dg_node.specs.Alters.{altered, least_start}
+use Rattle.dg_node.specs.Alters.{has_directive, least_start, first_with_data, present_schema, present_graph, declared, declared_unless, altered}
 use Rattle.dg_node.specs.Transactions.{begun, committed, committed_with, committed_unless, clash_of, with_commit, discarded}
-use Rattle.dg_node.specs.Mutations.{mutated, text_set, no_uids}
+use Rattle.dg_node.specs.Mutations.{mutated, text_set, takes_text, no_uids}
 use Rattle.dg_node.specs.Queries.{queried, seen, answer_text}
 use Rattle.dg_node.specs.Kept.{IsKept}
-use Rattle.dg_node.specs.State.{session_from, StandFor}
+use Rattle.dg_node.specs.State.{session_from}
+use Rattle.dg_node.proofs.Standing.{StandFor}
 use Rattle.dg_node.proofs.OneAmong.{around, some_found}
 use Rattle.dg_node.proofs.SessionLemmas.{open_here}
 
@@ -93,10 +95,10 @@ module _ (m : Machine) (sid : ℕ) (o : Opened) (opens : session_of m sid ≡ So
 
   -- ---- the others
 
-  pub mutated_is : (uid : ℕ) (name value : List ℕ) → is_declared (schema_at m.alters o.start) name ≡ true → ◌≡◌ {A = Pair} (mutated m sid uid name value) (replies.Mutate sid no_uids, with_change m sid (text_set uid name value))
+  pub mutated_is : (uid : ℕ) (name value : List ℕ) → takes_text (definition_of (schema_at m.alters o.start) name) ≡ true → ◌≡◌ {A = Pair} (mutated m sid uid name value) (replies.Mutate sid no_uids, with_change m sid (text_set uid name value))
   mutated_is uid name value there = rw (opens, there) refl
 
-  pub mutation_unbuilt : (uid : ℕ) (name value : List ℕ) → is_declared (schema_at m.alters o.start) name ≡ false → ◌≡◌ {A = Pair} (mutated m sid uid name value) (replies.Refused refusals.Unbuilt, m)
+  pub mutation_unbuilt : (uid : ℕ) (name value : List ℕ) → takes_text (definition_of (schema_at m.alters o.start) name) ≡ false → ◌≡◌ {A = Pair} (mutated m sid uid name value) (replies.Refused refusals.Unbuilt, m)
   mutation_unbuilt uid name value none = rw (opens, none) refl
 
   pub queried_is : (uid : ℕ) (name : List ℕ) → ◌≡◌ {A = Pair} (queried m sid uid name) (replies.Query sid (answer_text name (seen m (session_from o) uid name)), m)
@@ -117,13 +119,23 @@ module _ (m : Machine) (sid : ℕ) (closed : session_of m sid ≡ None) where
 
 -- ---- alter
 
-pub altered_is : (m : Machine) (newer : List PredDef) (start ts : ℕ) → least_start m.sessions ≡ None → m.next + 1 < 2 ^ 62 → start ≡ m.next → ts ≡ m.next + 1 → ◌≡◌ {A = Pair} (altered m newer) (replies.Alter start ts, record { groups = m.groups; next = m.next + 2; alters = m.alters ++ (record { start = m.next; ts = m.next + 1; definitions = newer }) ∷ []; commits = m.commits; sessions = m.sessions })
-altered_is m newer start ts none lt e f = rw (none, less (m.next + 1) lt, e, f) refl
+module _ (m : Machine) (newer : List PredDef) where
+  pub declared_is : (start ts : ℕ) → m.next + 1 < 2 ^ 62 → start ≡ m.next → ts ≡ m.next + 1 → ◌≡◌ {A = Pair} (declared m newer) (replies.Alter start ts, record { groups = m.groups; next = m.next + 2; alters = m.alters ++ (record { start = m.next; ts = m.next + 1; definitions = newer }) ∷ []; commits = m.commits; sessions = m.sessions })
+  declared_is start ts lt e f = rw (less (m.next + 1) lt, e, f) refl
 
-pub alter_pending : (m : Machine) (newer : List PredDef) (start : ℕ) → least_start m.sessions ≡ Some start → ◌≡◌ {A = Pair} (altered m newer) (replies.Refused (refusals.Pending start), m)
-alter_pending m newer start some = rw some refl
+  pub alter_spent : (spent : ℕ) → 2 ^ 62 - 1 ≤ m.next → spent ≡ m.next → ◌≡◌ {A = Pair} (declared m newer) (replies.Refused (refusals.TimestampsSpent spent), m)
+  alter_spent spent le e =
+      let late : nat_lt (m.next + 1) (2 ^ 62) ≡ false = grind (arith, common_steps) in
+      rw (late, e) refl
 
-pub alter_spent : (m : Machine) (newer : List PredDef) (spent : ℕ) → least_start m.sessions ≡ None → 2 ^ 62 - 1 ≤ m.next → spent ≡ m.next → ◌≡◌ {A = Pair} (altered m newer) (replies.Refused (refusals.TimestampsSpent spent), m)
-alter_spent m newer spent none le e =
-    let late : nat_lt (m.next + 1) (2 ^ 62) ≡ false = grind (arith, common_steps) in
-    rw (none, late, e) refl
+  pub alter_unbuilt : list_any has_directive newer ≡ true → ◌≡◌ {A = Pair} (altered m newer) (replies.Refused refusals.Unbuilt, m)
+  alter_unbuilt some = rw some refl
+
+  pub alter_pending : (start : ℕ) → list_any has_directive newer ≡ false → least_start m.sessions ≡ Some start → ◌≡◌ {A = Pair} (altered m newer) (replies.Refused (refusals.Pending start), m)
+  alter_pending start plain some = rw (plain, some) refl
+
+  pub alter_has_data : (name : List ℕ) → list_any has_directive newer ≡ false → least_start m.sessions ≡ None → first_with_data (present_schema m) (present_graph m) newer ≡ Some name → ◌≡◌ {A = Pair} (altered m newer) (replies.Refused (refusals.HasData name), m)
+  alter_has_data name plain none found = rw (plain, none) (ap (λ (o : Option (List ℕ)). declared_unless m newer o) found)
+
+  pub altered_is : list_any has_directive newer ≡ false → least_start m.sessions ≡ None → first_with_data (present_schema m) (present_graph m) newer ≡ None → ◌≡◌ {A = Pair} (altered m newer) (declared m newer)
+  altered_is plain none free = rw (plain, none) (ap (λ (o : Option (List ℕ)). declared_unless m newer o) free)

@@ -8,8 +8,8 @@ use Rattle.std.specs.Str.Parse.{AllDigits, digits_value}
 use Rattle.std.proofs.lemmas.Bool.{eqb-true, and_parts}
 use Rattle.std.proofs.lemmas.Bool.Decides.{nat_tests}
 use Rattle.dg_wire.specs.Names.{starts_name, goes_on, is_dot_before, is_name_end, is_name}
-use Rattle.dg_node.specs.Bodies.{is_predicate, is_plain, IsNode, Declares, Sets, Asks}
-use Rattle.dg_node.specs.Scanning.{after_front, before_end, cut_at, is_hex, uid_of, declared_by, plain_triple, set_by, asked_by}
+use Rattle.dg_node.specs.Bodies.{is_predicate, is_plain, IsNode, Sets, Asks}
+use Rattle.dg_node.specs.Scanning.{after_front, before_end, cut_at, is_hex, uid_of, plain_triple, set_by, asked_by}
 use Rattle.dg_node.proofs.CutLemmas.{passed, after_front-sound, after_front-append, before_end-sound, before_end-append, cut_at-sound, cut_at-first, Lacks}
 use Rattle.dg_node.proofs.HexLemmas.{all_hex}
 use Rattle.dg_node.proofs.Bools.{joined}
@@ -92,34 +92,6 @@ uid_of-exact ds uid node =
     let not_zero : nat_lt 0 (digits_value 16 ds) ≡ true = grind (arith, nat_tests) in
     let test = joined (nat_lt 0 (length ds)) _ some (joined (nat_le (length ds) 15) _ most (joined (list_all is_hex ds) _ (hex_all ds node.each) not_zero)) in
     ap (λ (b : Bool). cond b (Some (digits_value 16 ds)) None) test ∙ ap (λ (n : ℕ). Some n) node.value
-
--- ---- what is declared
-
-declared_by-sound : (body name : List ℕ) → declared_by body ≡ Some name → Declares body name
-unfolding declared_by
-declared_by-sound body name e =
-    let at = stepped (λ (n : List ℕ). cond (is_predicate n) (Some n) None) (before_end (codes ": string .") body) name e in
-    let test = passed (is_predicate at.value) at.value name at.then in
-    let is : at.value ≡ name = test.1 in
-    record {
-      predicate = subst (λ (n : List ℕ). is_predicate n ≡ true) is test.0;
-      text = before_end-sound (codes ": string .") body at.value at.first ∙ ap (λ (n : List ℕ). n ++ codes ": string .") is;
-    }
-
-declared_by-exact : (body name : List ℕ) → Declares body name → declared_by body ≡ Some name
-unfolding declared_by
-declared_by-exact body name declares =
-    ap (λ (b : List ℕ). option_and_then (λ (n : List ℕ). cond (is_predicate n) (Some n) None) (before_end (codes ": string .") b)) declares.text
-    ∙ ap (option_and_then (λ (n : List ℕ). cond (is_predicate n) (Some n) None)) (before_end-append (codes ": string .") name)
-    ∙ ap (λ (b : Bool). cond b (Some name) None) declares.predicate
-
-pub declared_found : {A : Type 0} (f : A → List ℕ) (body : List ℕ) (o : Option A) → option_map f o ≡ declared_by body → IfSome o (λ x. Declares body (f x))
-declared_found f body None e = tt
-declared_found f body (Some x) e = declared_by-sound body (f x) (sym e)
-
-pub declared_none : {A : Type 0} (f : A → List ℕ) (body : List ℕ) (o : Option A) → option_map f o ≡ declared_by body → IfNone o ((name : List ℕ) → ¬ Declares body name)
-declared_none f body None e = λ name declares. no_some name (e ∙ declared_by-exact body name declares)
-declared_none f body (Some x) e = tt
 
 -- ---- what is set
 
@@ -263,12 +235,6 @@ asked_none uid name body None e = λ u n asks. no_some (u, n) (e ∙ asked_by-ex
 asked_none uid name body (Some x) e = tt
 
 -- ---- each body says one thing
-
-one_text : (x y : List ℕ) → Some x ≡ Some y → x ≡ y
-one_text x y e = cc
-
-pub declares_one : (body a b : List ℕ) → Declares body a → Declares body b → a ≡ b
-declares_one body a b x y = one_text a b (sym (declared_by-exact body a x) ∙ declared_by-exact body b y)
 
 one_set : (x y : ℕ × List ℕ × List ℕ) → Some x ≡ Some y → x ≡ y
 one_set x y e = cc

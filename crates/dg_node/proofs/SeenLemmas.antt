@@ -45,14 +45,15 @@ module _ (n : ℕ) (h : List Entry) (o : Opened) (l : IsLegal n h) (is : IsOpene
   start_plain plain = subst IsPlain (sym (schemas_stay n h o.start 0 l a)) plain
 
 -- an offer by its parts
-pub offer_made : {E : Type 0} (r : Result Offer E) (h : List Entry) (o : Opened) (w : World) (own : List Change) → w ≡ world_at h o.start → own ≡ o.own → IfOk r (λ offer. offer.start ≡ o.start) → IfOk r (λ offer. offer.keys ≡ conflict_keys w.schema w.graph own) → IfOk r (λ offer. offer.parts ≡ deltas w.schema w.graph own) → IfOk r (λ offer. IsSound w.schema w.graph offer.preds offer.keys offer.parts) → IfOk r (IsOfferOf h o)
-offer_made (Ok offer) h o w own e f start keys parts sound = record {
+pub offer_made : {E : Type 0} (r : Result Offer E) (h : List Entry) (o : Opened) (w : World) (own : List Change) → w ≡ world_at h o.start → own ≡ o.own → IfOk r (λ offer. offer.start ≡ o.start) → IfOk r (λ offer. offer.changes ≡ own) → IfOk r (λ offer. offer.keys ≡ conflict_keys w.schema w.graph own) → IfOk r (λ offer. offer.parts ≡ deltas w.schema w.graph own) → IfOk r (λ offer. IsSound w.schema w.graph offer.preds offer.keys offer.parts) → IfOk r (IsOfferOf h o)
+offer_made (Ok offer) h o w own e f start changes keys parts sound = record {
   start_is = start;
+  changes_are = changes ∙ f;
   keys_are = keys ∙ λ i. conflict_keys (e i).schema (e i).graph (f i);
   parts_are = parts ∙ λ i. deltas (e i).schema (e i).graph (f i);
   sound = subst (λ (v : World). IsSound v.schema v.graph offer.preds offer.keys offer.parts) e sound;
 }
-offer_made (Err x) h o w own e f start keys parts sound = tt
+offer_made (Err x) h o w own e f start changes keys parts sound = tt
 
 -- the text of the key of a conflict
 pub clash_there : (keys : List ConflictKey) (v : Verdict) (at ts : ℕ) (key : ConflictKey) → v ≡ Conflict at ts → slice_get keys at ≡ Some key → clash_text keys v ≡ conflict_text key

@@ -1,13 +1,13 @@
 -- What requests of one session make of the engine and of the machine that it stands for.
 use Rattle.std.proofs.Common.{◌≡◌, ℕ, ◌+◌, Bool, true, cond, not, List, [], ◌∷◌, ◌++◌, Option, Some, None, refl, ap, subst, sym, ◌∙◌, arith}
-use Rattle.std.specs.Prelude.{◌==◌, map, filter, find, position, slice_index_or, set, is_some}
-use Rattle.std.specs.List.{AllByRecursion, remove}
+use Rattle.std.specs.Prelude.{◌==◌, ◌&&◌, map, filter, find, position, slice_index_or, set}
+use Rattle.std.specs.List.{remove}
 use Rattle.std.specs.Arc.{arc_value}
 use Rattle.std.proofs.lemmas.List.{map-append}
 use Rattle.dg_schema.specs.declared.definition.PredDef.{PredDef}
 use Rattle.dg_graph.specs.declared.change.Change.{Change}
-use Rattle.dg_schema.specs.Definitions.{definition_of, is_declared}
-use Rattle.dg_graph.specs.Graphs.{objects, after_changes, fits, fits_by}
+use Rattle.dg_schema.specs.Definitions.{definition_of}
+use Rattle.dg_graph.specs.Graphs.{objects, after_changes, fits, fits_by, is_of_kind}
 use Rattle.dg_graph.specs.Changes.{changed as of_change}
 use Rattle.dg_edges.specs.Deltas.{AreFitting}
 use Rattle.dg_oracle.proofs.Oracles.{all_push}
@@ -28,12 +28,14 @@ use Rattle.dg_node.specs.Graphs.{committed_at}
 use Rattle.dg_node.specs.Machine.{Machine, Session, session_of, is_open, changed_if, with_session, with_change, without_session}
 use Rattle.dg_node.specs.Machine as machines
 use Rattle.dg_node.specs.Transactions.{with_commit}
-use Rattle.dg_node.specs.Mutations.{text_set}
+use Rattle.dg_values.specs.declared.kind.Kind.{Kind}
+use Rattle.dg_values.specs.declared.kind.Kind.TheVariants as kinds
+use Rattle.dg_node.specs.Mutations.{text_set, is_text, takes_text}
 use Rattle.dg_node.specs.Queries.{seen}
 use Rattle.dg_node.proofs.MachineLemmas.{schemas_are}
-use Rattle.dg_node.proofs.AlterLemmas.{found_string}
-use Rattle.dg_node.specs.Kept.{IsString, AreApart, IsOpened, IsKept}
-use Rattle.dg_node.specs.State.{session_from, StandFor}
+use Rattle.dg_node.specs.Kept.{AreApart, IsOpened, IsKept}
+use Rattle.dg_node.specs.State.{session_from, machine_of}
+use Rattle.dg_node.proofs.Standing.{StandFor}
 use Rattle.dg_node.proofs.OneAmong.{Around, without, found, none_has, not_found, changed, removed_is, set_is, it_is}
 use Rattle.dg_node.proofs.StandLemmas.{IsQuiet, stand_quiet, IsCommittedAs, stand_commit}
 use Rattle.dg_node.proofs.KeptLemmas.{Ends, ended_kept, look_kept, changed_kept, active_here, opened_here}
@@ -60,6 +62,13 @@ module _ (z : Zero) (os : List Opened) (k : IsKept z os) (sid place : ℕ) (a : 
   pub open_here : (m : Machine) → StandFor z os m → session_of m sid ≡ Some (session_from a.it)
   open_here m s =
       ap (find (λ (session : Session). session.sid == sid)) (s.sessions_are ∙ ap (map session_from) a.whole)
+      ∙ subst (λ (n : ℕ). find (λ (session : Session). session.sid == n) (map session_from (a.before ++ a.it ∷ a.after)) ≡ Some (session_from a.it)) a.is
+      (found session_from (λ (session : Session). session.sid) a.before a.after a.it apart)
+
+  -- of the engine's machine, whatever it agrees with
+  pub open_now : session_of (machine_of (record { zero = z; opened = os })) sid ≡ Some (session_from a.it)
+  open_now =
+      ap (λ (l : List Opened). find (λ (session : Session). session.sid == sid) (map session_from l)) a.whole
       ∙ subst (λ (n : ℕ). find (λ (session : Session). session.sid == n) (map session_from (a.before ++ a.it ∷ a.after)) ≡ Some (session_from a.it)) a.is
       (found session_from (λ (session : Session). session.sid) a.before a.after a.it apart)
 
@@ -94,6 +103,7 @@ module _ (z : Zero) (os : List Opened) (k : IsKept z os) (sid place : ℕ) (a : 
         groups_are = s.groups_are;
         next_is = s.next_is;
         alters_are = s.alters_are;
+        commits_are = s.commits_are;
         sessions_are = grown;
         keys_are = s.keys_are;
         drawn = s.drawn;
@@ -185,19 +195,21 @@ seen_here z os m o uid name s =
     λ i. objects (after_changes (schema_is i) (graph_is i) o.own) name uid
 
 -- the schema of an open transaction is the one at its start
-pub declared_here : (z : Zero) (os : List Opened) (k : IsKept z os) (sid place : ℕ) (a : Around (λ (o : Opened). o.sid) sid os place) (m : Machine) (name : List ℕ) → StandFor z os m → is_declared (machine_schemas.schema_at m.alters a.it.start) name ≡ is_declared (arc_value a.it.schema) name
+pub declared_here : (z : Zero) (os : List Opened) (k : IsKept z os) (sid place : ℕ) (a : Around (λ (o : Opened). o.sid) sid os place) (m : Machine) (name : List ℕ) → StandFor z os m → definition_of (machine_schemas.schema_at m.alters a.it.start) name ≡ definition_of (arc_value a.it.schema) name
 declared_here z os k sid place a m name s =
     let there : machine_schemas.schema_at m.alters a.it.start ≡ schema_at z.history a.it.start = ap (λ (l : List Alter). machine_schemas.schema_at l a.it.start) s.alters_are ∙ schemas_are z.history a.it.start in
     let stays : schema_at z.history a.it.start ≡ schema z.history = schemas_stay z.groups z.history a.it.start 0 k.legal (active_here z os a.before a.after a.it k a.whole) in
-    ap (λ (ds : List PredDef). is_declared ds name) (there ∙ stays ∙ sym (opened_here z os a.before a.after a.it k a.whole).schema_is)
+    ap (λ (ds : List PredDef). definition_of ds name) (there ∙ stays ∙ sym (opened_here z os a.before a.after a.it k a.whole).schema_is)
 
--- a text fits a declared predicate, where all are of strings
-text_fits_by : (ds : List PredDef) (name : List ℕ) (uid : ℕ) (value : List ℕ) (o : Option PredDef) → AllByRecursion IsString ds → definition_of ds name ≡ o → is_some o ≡ true → fits_by o (of_change (text_set uid name value)) ≡ true
-text_fits_by ds name uid value None all e there = absurd (cc)
-text_fits_by ds name uid value (Some def) all e there = subst (λ (d : PredDef). fits_by (Some d) (of_change (text_set uid name value)) ≡ true) (sym (found_string ds name def all e)) refl
-
-pub text_fits : (z : Zero) (os : List Opened) (k : IsKept z os) (sid place : ℕ) (a : Around (λ (o : Opened). o.sid) sid os place) (uid : ℕ) (name value : List ℕ) → is_declared (arc_value a.it.schema) name ≡ true → fits (arc_value a.it.schema) (of_change (text_set uid name value)) ≡ true
-text_fits z os k sid place a uid name value there =
-    let is : arc_value a.it.schema ≡ schema z.history = (opened_here z os a.before a.after a.it k a.whole).schema_is in
-    let all : AllByRecursion IsString (arc_value a.it.schema) = subst (λ (ds : List PredDef). AllByRecursion IsString ds) (sym is) k.strings in
-    text_fits_by (arc_value a.it.schema) name uid value (definition_of (arc_value a.it.schema) name) all refl there
+-- a text fits a predicate of single strings
+pub text_fits : (o : Option PredDef) (uid : ℕ) (name value : List ℕ) → takes_text o ≡ true → fits_by o (of_change (text_set uid name value)) ≡ true
+text_fits None uid name value takes = absurd (cc)
+text_fits (Some def) uid name value takes = by def.kind takes
+  where
+    by : (kind : Kind) → (is_text kind && not def.list) ≡ true → is_of_kind kind (of_change (text_set uid name value)).o ≡ true
+    by kinds.Text e = refl
+    by kinds.Default e = absurd (cc)
+    by kinds.Int e = absurd (cc)
+    by kinds.Bool e = absurd (cc)
+    by kinds.Time e = absurd (cc)
+    by kinds.Uid e = absurd (cc)

@@ -28,16 +28,21 @@ use Rattle.dg_node.specs.Schemas as machines
 use Rattle.dg_node.specs.Graphs.{Commit, committed_at}
 use Rattle.dg_node.specs.Machine.{Machine, Session}
 use Rattle.dg_node.specs.Transactions.{keys_at, keyed}
-use Rattle.dg_node.specs.State.{alter_of, alters, IsDrawn, session_from, StandFor}
+use Rattle.dg_node.specs.State.{alter_of, alters, asked_of, asked_by, IsDrawn, session_from}
+use Rattle.dg_node.proofs.Standing.{StandFor}
 use Rattle.dg_node.proofs.MachineLemmas.{schemas_are, schema_before, graph_beside, graph_before, graph_there, IsSeenAlike, all_keyed_alike, all_from, drawn_later}
 
 pub alters_push : (h : List Entry) (e : Entry) → alters (h ++ e ∷ []) ≡ alters h ++ alter_of e.event
 alters_push h e = flat_map-append (λ (e : Entry). alter_of e.event) h (e ∷ []) ∙ ap (λ (alts : List Alter). alters h ++ alts) (append-nil (alter_of e.event))
 
+pub asked_push : (h : List Entry) (e : Entry) → asked_by (h ++ e ∷ []) ≡ asked_by h ++ asked_of e.event
+asked_push h e = flat_map-append (λ (e : Entry). asked_of e.event) h (e ∷ []) ∙ ap (λ (cs : List Commit). asked_by h ++ cs) (append-nil (asked_of e.event))
+
 -- an event that neither alters nor commits
 pub record IsQuiet (event : Event) : Type 0 where
   pub no_alter : alter_of event ≡ []
   pub no_commit : commit_of event ≡ []
+  pub none_asked : asked_of event ≡ []
   pub same_world : (w : World) → world_after w event ≡ w
 
 module _ (z : Zero) (os : List Opened) (m : Machine) (s : StandFor z os m) (author : ℕ) where
@@ -49,6 +54,7 @@ module _ (z : Zero) (os : List Opened) (m : Machine) (s : StandFor z os m) (auth
         groups_are = s.groups_are;
         next_is = omega (arith, s.next_is, is);
         alters_are = s.alters_are ∙ sym (alters_push z.history e ∙ (ap (λ (alts : List Alter). alters z.history ++ alts) q.no_alter ∙ append-nil (alters z.history)));
+        commits_are = s.commits_are ∙ sym (asked_push z.history e ∙ (ap (λ (cs : List Commit). asked_by z.history ++ cs) q.none_asked ∙ append-nil (asked_by z.history)));
         sessions_are = same;
         keys_are = s.keys_are ∙ sym (commits_push z.history e ∙ (ap (λ (cs : List (oracle.Commit ConflictKey)). commits z.history ++ cs) q.no_commit ∙ append-nil (commits z.history)));
         drawn = drawn_later m.next later m.commits (omega (arith, is)) s.drawn;
@@ -72,6 +78,7 @@ module _ (z : Zero) (os : List Opened) (m : Machine) (s : StandFor z os m) (auth
         groups_are = s.groups_are;
         next_is = omega (arith, s.next_is);
         alters_are = ap (λ (alts : List Alter). alts ++ a ∷ []) s.alters_are ∙ (ap (λ (alts : List Alter). alters z.history ++ alts) one ∙ sym (alters_push z.history e));
+        commits_are = s.commits_are ∙ sym (asked_push z.history e ∙ append-nil (asked_by z.history));
         sessions_are = s.sessions_are;
         keys_are = all_keyed_alike m n m.commits (all_from (IsDrawn m.next) (IsSeenAlike m n) (λ c d. record { schema_is = schema_before m.alters a c.start (omega (arith, d.0, d.1)); graph_is = graph_beside m.alters a m.next c.start m.commits (omega arith) s.drawn }) m.commits s.drawn)
             ∙ (s.keys_are ∙ sym (commits_push z.history e ∙ append-nil (commits z.history)));
@@ -89,6 +96,7 @@ module _ (z : Zero) (os : List Opened) (m : Machine) (s : StandFor z os m) (auth
     pub legal : IsLegal z.groups z.history
     pub start_is : offer.start ≡ start
     pub start_drawn : start < m.next
+    pub changes_same : offer.changes ≡ own
     pub keys_same : offer.keys ≡ conflict_keys (schema_at z.history start) (graph_at z.history start []) own
     pub parts_do : after_changes (schema z.history) (world z.history).graph own ≡ after_changes (schema z.history) (world z.history).graph (changes_of offer.parts)
 
@@ -104,11 +112,15 @@ module _ (z : Zero) (os : List Opened) (m : Machine) (s : StandFor z os m) (auth
       let graph_of : committed_at m.alters (m.commits ++ c ∷ []) start ≡ graph_at z.history start [] = graph_before m.alters m.commits c start is.start_drawn ∙ s.graphs_are start in
       let keys_of : keys_at n start own ≡ offer.keys = (λ i. conflict_keys (schema_there i) (graph_of i) own) ∙ sym is.keys_same in
       let one : keyed n c ∷ [] ≡ commit_of event = λ i. (record { ts = drawn_at i; keys = keys_of i }) ∷ [] in
+      let start_back : start ≡ offer.start = sym is.start_is in
+      let changes_back : own ≡ offer.changes = sym is.changes_same in
+      let one_asked : c ∷ [] ≡ asked_of event = λ i. (record { start = start_back i; ts = drawn_at i; changes = changes_back i }) ∷ [] in
       let older : map (keyed n) m.commits ≡ map (keyed m) m.commits = all_keyed_alike m n m.commits (all_from (IsDrawn m.next) (IsSeenAlike m n) (λ d p. record { schema_is = refl; graph_is = graph_before m.alters m.commits c d.start (omega (arith, p.0, p.1)) }) m.commits s.drawn) in
       record {
         groups_are = s.groups_are;
         next_is = omega (arith, s.next_is);
         alters_are = s.alters_are ∙ sym (alters_push z.history e ∙ append-nil (alters z.history));
+        commits_are = (λ i. s.commits_are i ++ one_asked i) ∙ sym (asked_push z.history e);
         sessions_are = same;
         keys_are = map-append (keyed n) m.commits (c ∷ []) ∙ ((λ i. (older ∙ s.keys_are) i ++ one i) ∙ sym (commits_push z.history e));
         drawn = all_push (IsDrawn (m.next + 1)) m.commits c (drawn_later m.next (m.next + 1) m.commits (omega arith) s.drawn) (is.start_drawn, omega arith);

@@ -6,11 +6,10 @@ use Rattle.dg_wire.specs.declared.reply.Reply.TheVariants as replies
 use Rattle.dg_wire.specs.declared.request.Request.{Request}
 use Rattle.dg_wire.specs.declared.request.Request.TheVariants as requests
 use Rattle.dg_node.specs.Machine.{Machine, empty}
-use Rattle.dg_node.specs.Alters.{altered, string_definition, Alters}
 use Rattle.dg_node.specs.Mutations.{mutated, Mutates}
 use Rattle.dg_node.specs.Queries.{queried, Queries}
 use Rattle.dg_node.specs.Steps.{Outcome, Step, Steps, HadMemory, IsDetermined}
-use Rattle.dg_node.proofs.ScanLemmas.{declares_one, sets_one, asks_one}
+use Rattle.dg_node.proofs.ScanLemmas.{sets_one, asks_one}
 
 abbrev Pair : Type 0
 Pair = Reply × Machine
@@ -18,12 +17,6 @@ Pair = Reply × Machine
 -- one reply and one state
 abbrev Same : Reply → Reply → Machine → Machine → Type 0
 Same p q a b = ◌≡◌ {A = Pair} (p, a) (q, b)
-
-alters_one : (old : Machine) (body : List ℕ) (p q : Reply) (a b : Machine) → Alters old body p a → Alters old body q b → Same p q a b
-alters_one old body p q a b (inl x) (inl y) = sym x.outcome ∙ ap (λ (n : List ℕ). altered old (string_definition n ∷ [])) (declares_one body x.name y.name x.form y.form) ∙ y.outcome
-alters_one old body p q a b (inl x) (inr y) = absurd (y.other x.name x.form)
-alters_one old body p q a b (inr x) (inl y) = absurd (x.other y.name y.form)
-alters_one old body p q a b (inr x) (inr y) = sym x.outcome ∙ y.outcome
 
 mutates_one : (old : Machine) (sid : ℕ) (body : List ℕ) (p q : Reply) (a b : Machine) → Mutates old sid body p a → Mutates old sid body q b → Same p q a b
 mutates_one old sid body p q a b (inl x) (inl y) =
@@ -42,7 +35,7 @@ queries_one old sid body p q a b (inr x) (inl y) = absurd (x.other y.uid y.name 
 queries_one old sid body p q a b (inr x) (inr y) = sym x.outcome ∙ y.outcome
 
 pub outcome_one : (old : Machine) (request : Request) (p q : Reply) (a b : Machine) → Outcome old request p a → Outcome old request q b → Same p q a b
-outcome_one old (requests.Alter body) p q a b x y = alters_one old body p q a b x y
+outcome_one old (requests.Alter body) p q a b x y = sym x ∙ y
 outcome_one old (requests.Begin sid) p q a b x y = sym x ∙ y
 outcome_one old (requests.Mutate sid body) p q a b x y = mutates_one old sid body p q a b x y
 outcome_one old (requests.Query sid body) p q a b x y = queries_one old sid body p q a b x y

@@ -25,11 +25,6 @@ pub record IsNode (digits : List ℕ) (uid : ℕ) : Type 0 where
 abbrev pub is_plain : ℕ → Bool
 is_plain byte = nat_le 32 byte && (nat_lt byte 127 && (not (byte == 34) && not (byte == 92)))
 
--- `NAME: string .`
-pub record Declares (body name : List ℕ) : Type 0 where
-  pub predicate : is_predicate name ≡ true
-  pub text : body ≡ name ++ codes ": string ."
-
 -- `<0xUID> <NAME> "TEXT" .`
 pub record Sets (body : List ℕ) (uid : ℕ) (name value : List ℕ) : Type 0 where
   pub digits : List ℕ

@@ -13,9 +13,10 @@ use Rattle.dg_zero.specs.Worlds.{schema_at, graph_at}
 use Rattle.dg_edges.specs.Deltas.{deltas}
 use Rattle.dg_node.specs.declared.engine.Opened.{Opened}
 
--- the offer has the start, the keys and the parts of an open transaction's changes, and is sound
+-- the offer has the start, the changes of an open transaction, and their keys and parts, and is sound
 pub record IsOfferOf (history : List Entry) (o : Opened) (offer : Offer) : Type 0 where
   pub start_is : offer.start ≡ o.start
+  pub changes_are : offer.changes ≡ o.own
   pub keys_are : offer.keys ≡ conflict_keys (schema_at history o.start) (graph_at history o.start []) o.own
   pub parts_are : offer.parts ≡ deltas (schema_at history o.start) (graph_at history o.start []) o.own
   pub sound : IsSound (schema_at history o.start) (graph_at history o.start []) offer.preds offer.keys offer.parts

@@ -2,7 +2,6 @@
 use Rattle.std.specs.Prelude.{◌≡◌, ◌≢◌, ◌<◌, ℕ, List, [], ◌∷◌, map}
 use Rattle.std.specs.List.{AllByRecursion}
 use Rattle.std.specs.Arc.{arc_value}
-use Rattle.dg_schema.specs.declared.definition.PredDef.{PredDef}
 use Rattle.dg_zero.specs.declared.entry.Entry.{Entry}
 use Rattle.dg_zero.specs.declared.place.Phase.TheVariants.{Idle}
 use Rattle.dg_zero.specs.declared.place.Place.{Place}
@@ -11,18 +10,13 @@ use Rattle.dg_zero.specs.Legal.{IsLegal}
 use Rattle.dg_zero.specs.Places.{tablets}
 use Rattle.dg_zero.specs.States.{Zero}
 use Rattle.dg_zero.specs.Worlds.{schema}
-use Rattle.dg_edges.specs.Deltas.{AreFitting}
+use Rattle.dg_edges.specs.Deltas.{AreFitting, IsPlain}
 use Rattle.dg_node.specs.declared.engine.Opened.{Opened}
-use Rattle.dg_node.specs.Alters.{string_definition}
 
 -- what the engine is seen as: Zero's state, and the open transactions in the order in which they began
 pub record Held : Type 0 where
   pub zero : Zero
   pub opened : List Opened
-
--- a predicate of single texts without index, reverse and count
-abbrev pub IsString : PredDef → Type 0
-IsString def = def ≡ string_definition def.name
 
 -- an open transaction's start, begun by author 0
 abbrev pub started : Opened → Started
@@ -40,11 +34,11 @@ pub record IsOpened (history : List Entry) (o : Opened) : Type 0 where
   pub fitting : AreFitting (schema history) o.own
   pub author : o.slip ≡ 0
 
--- nothing is moved, each predicate is one of strings, and the open transactions are the active ones
+-- nothing is moved, no predicate has an index, a reverse or a count, and the open transactions are the active ones
 pub record IsKept (zero : Zero) (opened : List Opened) : Type 0 where
   pub legal : IsLegal zero.groups zero.history
   pub idle : AllByRecursion (λ (t : Place). t.phase ≡ Idle) (tablets zero.history)
-  pub strings : AllByRecursion IsString (schema zero.history)
+  pub plain : IsPlain (schema zero.history)
   pub active_are : active zero.history ≡ map started opened
   pub apart : AreApart (λ o. o.sid) opened
   pub each : AllByRecursion (IsOpened zero.history) opened

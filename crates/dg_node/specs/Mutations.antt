@@ -1,11 +1,14 @@
--- What `mutate` does. Only a body that sets one plain text of a declared predicate is built.
-use Rattle.std.specs.Prelude.{◌≡◌, ℕ, ◌⊎◌, if◌then◌else◌, Option, Some, None, List, codes}
+-- What `mutate` does. Only a body that sets one plain text of a predicate of single strings is built.
+use Rattle.std.specs.Prelude.{◌≡◌, ℕ, ◌⊎◌, if◌then◌else◌, Bool, true, false, not, ◌&&◌, Option, Some, None, List, codes}
+use Rattle.dg_values.specs.declared.kind.Kind.{Kind}
+use Rattle.dg_values.specs.declared.kind.Kind.TheVariants as kinds
 use Rattle.dg_values.specs.declared.value.Value.TheVariants as values
 use Rattle.dg_values.specs.declared.value.Posting.TheVariants as postings
 use Rattle.dg_wire.specs.declared.refusal.Refusal.TheVariants as refusals
 use Rattle.dg_wire.specs.declared.reply.Reply.{Reply}
 use Rattle.dg_wire.specs.declared.reply.Reply.TheVariants as replies
-use Rattle.dg_schema.specs.Definitions.{is_declared}
+use Rattle.dg_schema.specs.declared.definition.PredDef.{PredDef}
+use Rattle.dg_schema.specs.Definitions.{definition_of}
 use Rattle.dg_graph.specs.declared.change.Change.{Change}
 use Rattle.dg_graph.specs.declared.change.Change.TheVariants.{Set}
 use Rattle.dg_node.specs.Bodies.{Sets}
@@ -21,11 +24,21 @@ no_uids = codes "{\"uids\":{}}"
 abbrev pub text_set : ℕ → List ℕ → List ℕ → Change
 text_set uid name value = Set (record { s = uid; p = name; o = postings.Val (values.Text value) })
 
--- The change is added to the session's own, where the schema at its start declares the predicate; else the form isn't built.
+-- the kind of strings
+abbrev pub is_text : Kind → Bool
+is_text kinds.Text = true
+is_text kind = false
+
+-- the predicate is declared as one of single strings
+abbrev pub takes_text : Option PredDef → Bool
+takes_text None = false
+takes_text (Some def) = is_text def.kind && not def.list
+
+-- The change is added to the session's own, where the schema at its start has the predicate as one of single strings; else the form isn't built.
 abbrev pub mutated_by : Machine → ℕ → Option Session → ℕ → List ℕ → List ℕ → Reply × Machine
 mutated_by machine sid None uid name value = refused machine (refusals.NoSession sid)
 mutated_by machine sid (Some session) uid name value =
-    if is_declared (schema_at machine.alters session.start) name
+    if takes_text (definition_of (schema_at machine.alters session.start) name)
     then (replies.Mutate sid no_uids, with_change machine sid (text_set uid name value))
     else refused machine refusals.Unbuilt
 

@@ -28,10 +28,6 @@ is_hex byte = nat_lt (digit_value byte) 16
 unfoldable pub uid_of : List ℕ → Option ℕ
 uid_of digits = if nat_lt 0 (length digits) && (nat_le (length digits) 15 && (list_all is_hex digits && nat_lt 0 (digits_value 16 digits))) then Some (digits_value 16 digits) else None
 
--- what `NAME: string .` declares
-unfoldable pub declared_by : List ℕ → Option (List ℕ)
-declared_by body = option_and_then (λ name. if is_predicate name then Some name else None) (before_end (codes ": string .") body)
-
 -- a plain text of a predicate at a node
 abbrev pub plain_triple : ℕ → List ℕ → List ℕ → Option (ℕ × List ℕ × List ℕ)
 plain_triple uid name value = if is_name name && list_all is_plain value then Some (uid, name, value) else None

@@ -1,11 +1,10 @@
--- Which machine the engine stands for.
+-- The machine that the engine stands for: one function from Zero's state and the open transactions.
 use Rattle.std.specs.Prelude.{◌≡◌, ℕ, ◌<◌, List, [], ◌∷◌, map, flat_map}
 use Rattle.std.specs.List.{AllByRecursion}
 use Rattle.dg_zero.specs.declared.entry.Entry.{Entry}
 use Rattle.dg_zero.specs.declared.entry.Event.{Event}
 use Rattle.dg_zero.specs.declared.entry.Event.TheVariants as events
 use Rattle.dg_zero.specs.Counters.{next}
-use Rattle.dg_zero.specs.States.{Zero}
 use Rattle.dg_zero.specs.Verdicts.{commits}
 use Rattle.dg_zero.specs.Worlds.{world_at}
 use Rattle.dg_node.specs.declared.engine.Opened.{Opened}
@@ -30,34 +29,49 @@ alter_of event = []
 abbrev pub alters : List Entry → List Alter
 alters history = flat_map (λ e. alter_of e.event) history
 
+-- the commit that an event is, with its changes as they were asked for
+abbrev pub asked_of : Event → List Commit
+asked_of (events.Commit start preds keys asked written) = (record { start = start; ts = written.ts; changes = asked }) ∷ []
+asked_of event = []
+
+-- the commits of a history
+abbrev pub asked_by : List Entry → List Commit
+asked_by history = flat_map (λ e. asked_of e.event) history
+
+-- the machine
+abbrev pub machine_of : Held → Machine
+machine_of held = record {
+  groups = held.zero.groups;
+  next = next held.zero.history;
+  alters = alters held.zero.history;
+  commits = asked_by held.zero.history;
+  sessions = map session_from held.opened;
+}
+
 -- a commit's timestamps were drawn, its start before the other
 abbrev pub IsDrawn : ℕ → Commit → Type 0
 IsDrawn next commit = (commit.start < commit.ts) × (commit.ts < next)
 
--- The machine has the counter, the alters and the open transactions that Zero's state and the sessions have. Its commits
--- have the timestamps and keys of the history's, and make the same graph at each timestamp: the history has what lists
--- gained and lost by them, the machine the changes as they were asked for, so that no function leads from one to the other.
-pub record StandFor (zero : Zero) (opened : List Opened) (machine : Machine) : Type 0 where
-  pub groups_are : machine.groups ≡ zero.groups
-  pub next_is : machine.next ≡ next zero.history
-  pub alters_are : machine.alters ≡ alters zero.history
-  pub sessions_are : machine.sessions ≡ map session_from opened
-  pub keys_are : map (keyed machine) machine.commits ≡ commits zero.history
-  pub drawn : AllByRecursion (IsDrawn machine.next) machine.commits
-  pub graphs_are : (at : ℕ) → committed_at machine.alters machine.commits at ≡ (world_at zero.history at).graph
+-- What commits wrote into the history is what they asked for: by their changes the machine has the keys that the history
+-- has, and at each timestamp the same graph. This is kept from the first request on.
+pub record Agrees (held : Held) : Type 0 where
+  pub keys_are : map (keyed (machine_of held)) (machine_of held).commits ≡ commits held.zero.history
+  pub drawn : AllByRecursion (IsDrawn (machine_of held).next) (machine_of held).commits
+  pub graphs_are : (at : ℕ) → committed_at (machine_of held).alters (machine_of held).commits at ≡ (world_at held.zero.history at).graph
+
+-- the step leads from the machine before to the machine after
+pub record Leads (before : Held) (step : Machine → Machine → Type 0) (after : Held) : Type 0 where
+  pub leads : Agrees before → step (machine_of before) (machine_of after)
+  pub agrees : Agrees before → Agrees after
+
+-- the machine stays
+abbrev pub Stays : Held → Held → Type 0
+Stays before after = Agrees before → (machine_of after ≡ machine_of before) × Agrees after
 
 -- the engine stands for this machine
 abbrev pub StandsFor : Held → Machine → Type 0
-StandsFor engine machine = StandFor engine.zero engine.opened machine
+StandsFor held machine = (machine_of held ≡ machine) × Agrees held
 
--- from each machine that the engine stands for, this step leads to one that it stands for then
-abbrev pub Leads : Held → (Machine → Machine → Type 0) → Held → Type 0
-Leads before step after = (m : Machine) → StandsFor before m → (n : Machine) × step m n × StandsFor after n
-
--- the engine stands for the same machines still
-abbrev pub Stays : Held → Held → Type 0
-Stays before after = (m : Machine) → StandsFor before m → StandsFor after m
-
--- on each machine that the engine stands for, the request's calls take memory
+-- the request's calls take memory
 abbrev pub MayWant : Held → Request → Type 0
-MayWant engine request = (m : Machine) → StandsFor engine m → TakesMemory m request
+MayWant held request = TakesMemory (machine_of held) request

@@ -8,14 +8,14 @@ use Rattle.dg_wire.specs.declared.request.Request.{Request}
 use Rattle.dg_wire.specs.declared.request.Request.TheVariants as requests
 use Rattle.dg_node.specs.Machine.{Machine, empty, drawn}
 use Rattle.dg_node.specs.Replying.{IsUnbuilt}
-use Rattle.dg_node.specs.Alters.{Alters}
+use Rattle.dg_node.specs.Alters.{alters}
 use Rattle.dg_node.specs.Transactions.{begun, committed, discarded, HasChanges}
 use Rattle.dg_node.specs.Mutations.{Mutates}
 use Rattle.dg_node.specs.Queries.{Queries}
 
 -- what a request is answered and leaves, where there is memory
 abbrev pub Outcome : Machine → Request → Reply → Machine → Type 0
-Outcome old (requests.Alter body) reply new = Alters old body reply new
+Outcome old (requests.Alter body) reply new = alters old body ≡ (reply, new)
 Outcome old (requests.Begin sid) reply new = begun old sid ≡ (reply, new)
 Outcome old (requests.Mutate sid body) reply new = Mutates old sid body reply new
 Outcome old (requests.Query sid body) reply new = Queries old sid body reply new

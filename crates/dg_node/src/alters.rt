@@ -1,46 +1,91 @@
 // What `alter` does.
-ghost use Rattle.std.specs.Prelude.{◌≡◌, ◌∷◌, [], IfOk};
-ghost use Rattle.std.specs.Str.{IsUtf8};
-ghost use Rattle.dg_node.specs.Alters.{string_definition};
+ghost use Rattle.std.specs.Prelude.{◌≡◌, ◌==◌, not, IfOk};
+ghost use Rattle.std.specs.List.{list_any};
+ghost use Rattle.dg_zero.specs.Legal.{kind_rank};
+ghost use Rattle.dg_zero.specs.Worlds.{schema, world};
+ghost use Rattle.dg_node.specs.Alters.{has_directive, is_other_kind, has_data, first_with_data};
 
-use crate::bodies::declared_by;
 use crate::engine::Engine;
 use crate::step::unbuilt;
-use dg_schema::{PredDef, Schema};
+use dg_schema::{PredDef, Schema, SchemaFault, read_schema};
 use dg_values::{Kind, List, Mem, OutOfMemory, Str};
 use dg_wire::{Refusal, Reply};
-use dg_zero::{Slip, ZeroFault};
+use dg_zero::{Slip, ZeroFault, ZeroState};
 use std::alloc::Global;
 use std::str;
 
 impl Engine {
-    ghost use Rattle.std.specs.Prelude.{◌≡◌, ◌∷◌, [], IfOk, OnErr, true};
-    ghost use Rattle.dg_node.specs.Bodies.{is_predicate};
-    ghost use Rattle.dg_node.specs.Alters.{Alters, altered, string_definition};
+    ghost use Rattle.std.specs.Prelude.{◌≡◌, ◌≤◌, [], None, false, IfOk, OnErr, length};
+    ghost use Rattle.std.specs.List.{list_any};
+    ghost use Rattle.dg_schema.specs.Definitions.{AreDistinct};
+    ghost use Rattle.dg_schema.specs.Whole as language;
+    ghost use Rattle.dg_zero.specs.Counters.{active};
+    ghost use Rattle.dg_zero.specs.Worlds.{world};
+    ghost use Rattle.dg_zero.specs.Worlds as worlds;
+    ghost use Rattle.dg_node.specs.Alters.{alters, altered, altered_by, declared, has_directive, first_with_data};
     ghost use Rattle.dg_node.specs.State.{Leads, Stays};
 
-    /// Declares one string predicate, where the form is built. After an error nothing has changed.
+    /// Adds or replaces the definitions of a text. After an error nothing has changed.
     pub fn try_alter(&mut self, alloc: Global, body: &[u8]) -> Mem<Reply>
-        ensures ok { IfOk result (λ reply. Leads self.old (λ m n. Alters m body.now reply n) self.new) }
+        requires { length body.now ≤ 1048576 }
+        ensures ok { IfOk result (λ reply. Leads self.old (λ m n. alters m body.now ≡ (reply, n)) self.new) }
         ensures err { OnErr result (Stays self.old self.new) }
     {
-        match declared_by(body) {
-            Some(name) => self.alter(alloc, name),
-            None => Ok(unbuilt()),
+        match str::from_utf8(body) {
+            Ok(text) => self.alter_by(alloc, text),
+            Err(fault) => Ok(Reply::Refused(Refusal::BadToken {
+                offset: fault.valid_up_to() as u64,
+            })),
         }
     }
 
-    // Draws two timestamps, and declares the predicate from the second on, unless a transaction is open.
-    fn alter(&mut self, alloc: Global, name: &[u8]) -> Mem<Reply>
-        requires name { is_predicate name.now ≡ true }
-        ensures ok { IfOk result (λ reply. Leads self.old (λ m n. altered m (string_definition name.now ∷ []) ≡ (reply, n)) self.new) }
+    // Adds or replaces the definitions of a text.
+    fn alter_by(&mut self, alloc: Global, text: &str) -> Mem<Reply>
+        requires { length text.now ≤ 1048576 }
+        ensures ok { IfOk result (λ reply. Leads self.old (λ m n. altered_by m (language.schema text.now) ≡ (reply, n)) self.new) }
         ensures err { OnErr result (Stays self.old self.new) }
     {
-        let newer = string_schema(alloc, name)?;
+        match read_schema(alloc, text) {
+            Ok(newer) => self.alter(alloc, &newer),
+            Err(SchemaFault::SchemaSyntax { line }) => {
+                Ok(Reply::Refused(Refusal::SchemaSyntax {
+                    line: u64::from(line),
+                }))
+            }
+            Err(SchemaFault::OutOfMemory) => Err(OutOfMemory),
+        }
+    }
+
+    // Adds or replaces definitions, unless one has a directive, a transaction is open, or data stands in the way.
+    fn alter(&mut self, alloc: Global, newer: &Schema) -> Mem<Reply>
+        ensures ok { IfOk result (λ reply. Leads self.old (λ m n. altered m newer.now ≡ (reply, n)) self.new) }
+        ensures err { OnErr result (Stays self.old self.new) }
+    {
+        if has_directives(newer.definitions()) {
+            return Ok(unbuilt());
+        }
+        if let Some(start) = self.zero.first_active() {
+            return Ok(Reply::Refused(Refusal::Pending { start }));
+        }
+        if let Some(pred) = first_with_data(alloc, &self.zero, newer.definitions())? {
+            return Ok(Reply::Refused(Refusal::HasData { pred }));
+        }
+        self.declare(alloc, newer)
+    }
+
+    // Draws two timestamps, and adds or replaces the definitions from the second on. No transaction is active and no tablet
+    // is held, so what else Zero may want is memory.
+    fn declare(&mut self, alloc: Global, newer: &Schema) -> Mem<Reply>
+        requires distinct { AreDistinct newer.now }
+        requires plain { list_any has_directive newer.now ≡ false }
+        requires idle { active self.old.zero.history ≡ [] }
+        requires free { first_with_data (worlds.schema self.old.zero.history) (world self.old.zero.history).graph newer.now ≡ None }
+        ensures ok { IfOk result (λ reply. Leads self.old (λ m n. declared m newer.now ≡ (reply, n)) self.new) }
+        ensures err { OnErr result (Stays self.old self.new) }
+    {
         let slip = Slip::new(alloc, 0)?;
-        match self.zero.alter(slip, &newer, List::new(alloc)) {
+        match self.zero.alter(slip, newer, List::new(alloc)) {
             Ok((start, commit)) => Ok(Reply::Alter { start, commit }),
-            Err(ZeroFault::Pending { start }) => Ok(Reply::Refused(Refusal::Pending { start })),
             Err(ZeroFault::TimestampsSpent { next }) => {
                 Ok(Reply::Refused(Refusal::TimestampsSpent { next }))
             }
@@ -49,32 +94,55 @@ impl Engine {
     }
 }
 
-// The schema of one string predicate.
-fn string_schema(alloc: Global, name: &[u8]) -> Mem<Schema>
-    requires { IsUtf8 name.now }
-    ensures { IfOk result (λ schema. schema ≡ string_definition name.now ∷ []) }
+// Whether a definition has a directive.
+fn has_directive(definition: &PredDef) -> bool
+    ensures { result ≡ has_directive definition.now }
 {
-    Schema::single(
-        alloc,
-        PredDef {
-            name: text_of(alloc, name)?,
-            kind: Kind::Text,
-            list: false,
-            tokens: List::new(alloc),
-            reverse: false,
-            count: false,
-            upsert: false,
-        },
-    )
+    !definition.tokens.is_empty() || definition.reverse || definition.count || definition.upsert
 }
 
-/// Bytes that are a text.
-pub fn text_of(alloc: Global, bytes: &[u8]) -> Mem<Str>
-    requires { IsUtf8 bytes.now }
-    ensures { IfOk result (λ text. text ≡ bytes.now) }
+// Whether one of them has.
+fn has_directives(definitions: &[PredDef]) -> bool
+    ensures { result ≡ list_any has_directive definitions.now }
 {
-    match str::from_utf8(bytes) {
-        Ok(text) => Str::from_str(alloc, text),
-        Err(_) => unreachable!(),
+    definitions
+        .iter()
+        .any(|definition| has_directive(definition))
+}
+
+// Whether two kinds are two.
+fn are_other(a: Kind, b: Kind) -> bool
+    ensures { result ≡ not (kind_rank a == kind_rank b) }
+{
+    a as u8 != b as u8
+}
+
+// Whether a definition has another kind than an older one, or is a list where that is none, or none where that is one.
+fn is_other_kind(definition: &PredDef, older: &PredDef) -> bool
+    ensures { result ≡ is_other_kind definition.now older.now }
+{
+    are_other(definition.kind, older.kind) || definition.list != older.list
+}
+
+// Whether the predicate has a triple, and would change its kind, or whether it is a list.
+fn has_data(alloc: Global, zero: &ZeroState, definition: &PredDef) -> Mem<bool>
+    ensures { IfOk result (λ has. has ≡ has_data (schema zero.now.history) (world zero.now.history).graph definition.now) }
+{
+    let name = definition.name.as_str();
+    match zero.schema().lookup(name) {
+        Some(older) if is_other_kind(definition, older) => zero.has_triple(alloc, name),
+        _ => Ok(false),
     }
+}
+
+// The first such predicate, in the order of the definitions.
+fn first_with_data(alloc: Global, zero: &ZeroState, definitions: &[PredDef]) -> Mem<Option<Str>>
+    ensures { IfOk result (λ found. found ≡ first_with_data (schema zero.now.history) (world zero.now.history).graph definitions.now) }
+{
+    for definition in definitions {
+        if has_data(alloc, zero, definition)? {
+            return Ok(Some(definition.name.copy(alloc)?));
+        }
+    }
+    Ok(None)
 }

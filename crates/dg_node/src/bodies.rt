@@ -1,6 +1,6 @@
 // The bodies that are built, read by hand.
-ghost use Rattle.std.specs.Prelude.{◌≡◌, ◌==◌, ◌<◌, ◌^◌, length, position, IfSome, IfNone, ℕ, List};
-ghost use Rattle.std.specs.Str.{bytes_eq};
+ghost use Rattle.std.specs.Prelude.{◌≡◌, ◌==◌, ◌<◌, ◌^◌, length, position, IfOk, IfSome, IfNone, ℕ, List};
+ghost use Rattle.std.specs.Str.{bytes_eq, IsUtf8};
 ghost use Rattle.std.specs.List.{list_all};
 ghost use Rattle.std.specs.Str.Parse.{AllDigits, digits_value};
 ghost use Rattle.std.specs.Char.{digit_value};
@@ -8,7 +8,10 @@ ghost use Rattle.std.specs.Option.{option_map, option_copied};
 ghost use Rattle.dg_node.specs.Bodies as bodies;
 ghost use Rattle.dg_node.specs.Scanning as scanning;
 
+use dg_values::{Mem, OutOfMemory, Str};
 use dg_wire::is_name;
+use std::alloc::Global;
+use std::str;
 
 // What stands behind a text at the front.
 fn after_front<'a>(front: &[u8], bytes: &'a [u8]) -> Option<&'a [u8]>
@@ -71,15 +74,6 @@ fn is_predicate(name: &[u8]) -> bool
     ensures { result ≡ bodies.is_predicate name.now }
 {
     is_name(name) && !is_reserved(name)
-}
-
-// The predicate that is declared.
-#[tactic(auto, unfolding(crate::specs::Scanning::declared_by))]
-fn scan_declared(body: &[u8]) -> Option<&[u8]>
-    ensures { option_copied result ≡ scanning.declared_by body.now }
-{
-    let name = before_end(b": string .", body)?;
-    if is_predicate(name) { Some(name) } else { None }
 }
 
 // A hexadecimal digit.
@@ -181,14 +175,6 @@ fn scan_asked(body: &[u8]) -> Option<(u64, &[u8])>
     }
 }
 
-/// The predicate that the body declares, where it has the form `NAME: string .`.
-pub fn declared_by(body: &[u8]) -> Option<&[u8]>
-    ensures found { IfSome result (λ name. bodies.Declares body.now name.now) }
-    ensures none { IfNone result ((name : List ℕ) → ¬ bodies.Declares body.now name) }
-{
-    scan_declared(body)
-}
-
 /// The node, the predicate and the text that the body sets, where it has the form `<0xUID> <NAME> "TEXT" .`.
 pub fn set_by(body: &[u8]) -> Option<(u64, &[u8], &[u8])>
     ensures found { IfSome result (λ set. bodies.Sets body.now set.0 set.1.now set.2.now) }
@@ -203,4 +189,15 @@ pub fn asked_by(body: &[u8]) -> Option<(u64, &[u8])>
     ensures none { IfNone result ((uid : ℕ) (name : List ℕ) → ¬ bodies.Asks body.now uid name) }
 {
     scan_asked(body)
+}
+
+/// Bytes that are a text.
+pub fn text_of(alloc: Global, bytes: &[u8]) -> Mem<Str>
+    requires { IsUtf8 bytes.now }
+    ensures { IfOk result (λ text. text ≡ bytes.now) }
+{
+    match str::from_utf8(bytes) {
+        Ok(text) => Str::from_str(alloc, text),
+        Err(_) => unreachable!(),
+    }
 }

@@ -1,16 +1,14 @@
 // What `mutate` does.
-ghost use Rattle.std.specs.Prelude.{◌≡◌, IfOk};
-ghost use Rattle.std.specs.Str.{IsUtf8};
-ghost use Rattle.dg_schema.specs.Definitions.{is_declared};
-ghost use Rattle.dg_node.specs.Mutations.{text_set};
+ghost use Rattle.std.specs.Prelude.{◌≡◌, option_copied, IfOk};
+ghost use Rattle.dg_schema.specs.Definitions.{definition_of};
+ghost use Rattle.dg_node.specs.Mutations.{text_set, takes_text};
 
-use crate::alters::text_of;
-use crate::bodies::set_by;
+use crate::bodies::{set_by, text_of};
 use crate::engine::{Engine, no_session};
 use crate::step::unbuilt;
 use dg_graph::{Change, Triple};
 use dg_schema::Schema;
-use dg_values::{List, Mem, OutOfMemory, Posting, Str, Value};
+use dg_values::{Kind, List, Mem, OutOfMemory, Posting, Str, Value};
 use dg_wire::Reply;
 use std::alloc::Global;
 
@@ -48,7 +46,7 @@ impl Engine {
             return Ok(no_session(sid));
         };
         let name = text_of(alloc, name)?;
-        if !is_declared(&self.sessions[place].schema, name.as_str()) {
+        if !takes_text(&self.sessions[place].schema, name.as_str()) {
             return Ok(unbuilt());
         }
         let body = List::from_vec(Vec::from_slice(alloc, b"{\"uids\":{}}")?);
@@ -69,11 +67,14 @@ impl Engine {
     }
 }
 
-// Whether a predicate is declared.
-fn is_declared(schema: &Schema, name: &str) -> bool
-    ensures { result ≡ is_declared schema.now name.now }
+// Whether a predicate is declared as one of single strings.
+fn takes_text(schema: &Schema, name: &str) -> bool
+    ensures { result ≡ takes_text (definition_of schema.now name.now) }
 {
-    schema.lookup(name).is_some()
+    match schema.lookup(name) {
+        Some(definition) => matches!(definition.kind, Kind::Text) && !definition.list,
+        None => false,
+    }
 }
 
 // A text is set.

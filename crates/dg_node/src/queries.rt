@@ -7,8 +7,7 @@ ghost use Rattle.dg_zero.specs.Worlds.{graph_at};
 ghost use Rattle.dg_node.specs.Kept.{IsOpened};
 ghost use Rattle.dg_node.specs.Queries.{answer_text, node_text};
 
-use crate::alters::text_of;
-use crate::bodies::asked_by;
+use crate::bodies::{asked_by, text_of};
 use crate::engine::{Engine, Opened, no_session};
 use crate::step::unbuilt;
 use dg_graph::{Snapshot, change_objects};

@@ -29,6 +29,13 @@ const READERS: &str =
 const READERS_REPLIES: &str =
     "ok alter 1 2\nok begin 2 3\nok begin 1 4\nok mutate 1 11\n{\"uids\":{}}\nok commit 1 5\nok query 2 17\n{\"data\":{\"q\":[]}}\nok begin 3 6\nok mutate 3 11\n{\"uids\":{}}\nok query 3 31\n{\"data\":{\"q\":[{\"name\":\"Cid\"}]}}\nok discard 3\nerror 1 NoSession 3\nok begin 3 7\nok query 3 31\n{\"data\":{\"q\":[{\"name\":\"Ann\"}]}}\nerror 1 NoSession 4\nerror 2 SessionOpen 3\nok commit 2 0\n";
 
+// The whole schema language, and each refusal of an alter in its order.
+const SCHEMAS: &str =
+    "alter 136\n# a catalogue\nname: string .\nage: int .\n<born.at>: dateTime .\nseen: [datetime] .\nfriend: [uid] .\nalive: bool .\nnote: default . # the end\nalter 24\na: string .\nb: strings .\nalter 22\na: string .\n\na: int .\n\nalter 13\na: string .\n!\nalter 13\nuid: string .\nalter 28\na: [uid] @reverse @reverse .\nalter 19\na: [uid] @reverse .\nalter 0\n\nbegin 1\nalter 25\na: string @index(exact) .\nalter 10\na string .\nmutate 1 20\n<0x1> <name> \"Ann\" .\nmutate 1 17\n<0x1> <age> \"7\" .\nmutate 1 18\n<0x1> <nick> \"A\" .\ncommit 1\nbegin 2\nalter 11\nname: int .\ndiscard 2\nalter 38\nage: string .\nname: int .\nalive: int .\nalter 16\nname: [string] .\nalter 45\nname: string .\nage: [string] .\nnick: string .\nbegin 1\nmutate 1 19\n<0x1> <age> \"old\" .\nmutate 1 18\n<0x1> <nick> \"A\" .\nquery 1 30\n{ q(func: uid(0x1)) { name } }\nquery 1 30\n{ q(func: uid(0x1)) { nick } }\n";
+
+const SCHEMAS_REPLIES: &str =
+    "ok alter 1 2\nerror 27 SchemaSyntax 2\nerror 27 SchemaSyntax 3\nerror 27 SchemaSyntax 2\nerror 27 SchemaSyntax 1\nerror 27 SchemaSyntax 1\nerror 98 Unbuilt\nok alter 3 4\nok begin 1 5\nerror 98 Unbuilt\nerror 27 SchemaSyntax 1\nok mutate 1 11\n{\"uids\":{}}\nerror 98 Unbuilt\nerror 98 Unbuilt\nok commit 1 6\nok begin 2 7\nerror 20 Pending 7\nok discard 2\nerror 22 HasData name\nerror 22 HasData name\nok alter 8 9\nok begin 1 10\nerror 98 Unbuilt\nok mutate 1 11\n{\"uids\":{}}\nok query 1 31\n{\"data\":{\"q\":[{\"name\":\"Ann\"}]}}\nok query 1 29\n{\"data\":{\"q\":[{\"nick\":\"A\"}]}}\n";
+
 // What a script is run with, and what has to come of it.
 #[derive(Clone, Copy)]
 struct Case<'a> {
@@ -153,6 +160,38 @@ fn runs_sessions_beside_each_other(rt: HostRuntime) -> Result<(), Fail> {
         ..conflict
     };
     run_case(&rt, alloc, &readers)
+}
+
+#[test]
+fn reads_schemas(rt: HostRuntime) -> Result<(), Fail> {
+    let alloc = rt.alloc();
+    let case = Case {
+        script: SCHEMAS,
+        most: 65_536,
+        failing_read: 0,
+        failing_write: 0,
+        status: Status::Done,
+        written: SCHEMAS_REPLIES,
+    };
+    run_case(&rt, alloc, &case)
+}
+
+// A body that is no text is refused at the first byte that belongs to no whole character, before all else.
+#[test]
+fn refuses_bytes_that_are_no_text(rt: HostRuntime) -> Result<(), Fail> {
+    let alloc = rt.alloc();
+    let bytes = Vec::from_slice(
+        alloc,
+        b"begin 1\nalter 5\na \xc3\xa9\xff\nalter 4\na: \xf0\n",
+    )?;
+    let mut source = MemSource::new(bytes, Vec::new(alloc), 1);
+    let mut sink = MemSink::new(alloc, Vec::new(alloc), 1);
+    let words = words(alloc, "run")?;
+    let status = dgraph_top(&rt, alloc, &words, &mut source, &mut sink, &OpenGate);
+    assert_eq!(rt; status, Status::Done);
+    let replies = "ok begin 1 1\nerror 3 BadToken 4\nerror 3 BadToken 3\n";
+    assert_eq!(rt; sink.bytes(), replies.as_bytes());
+    Ok(())
 }
 
 // Fifty transactions that each set a name at a node of their own and at the first node, and a last one that asks.

@@ -22,9 +22,8 @@ use std::alloc::Global;
 
 impl Engine {
     ghost use Rattle.std.specs.Prelude.{◌≡◌, ◌≢◌, ◌==◌, ◌<◌, [], Some, IfOk, IfSome, OnErr, length, position, slice_get};
-    ghost use Rattle.dg_node.specs.Machine.{Machine};
     ghost use Rattle.dg_node.specs.Transactions.{begun, committed, discarded, HasChanges};
-    ghost use Rattle.dg_node.specs.State.{StandsFor, Leads, Stays};
+    ghost use Rattle.dg_node.specs.State.{machine_of, Leads, Stays};
 
     /// Opens a transaction. After an error nothing has changed.
     pub fn try_begin(&mut self, alloc: Global, sid: u32) -> Mem<Reply>
@@ -74,7 +73,7 @@ impl Engine {
     pub fn try_commit(&mut self, alloc: Global, sid: u32) -> Mem<Reply>
         ensures ok { IfOk result (λ reply. Leads self.old (λ m n. committed m sid ≡ (reply, n)) self.new) }
         ensures err { OnErr result (Stays self.old self.new) }
-        ensures wants { OnErr result ((m : Machine) → StandsFor self.old m → HasChanges m sid) }
+        ensures wants { OnErr result (HasChanges (machine_of self.old) sid) }
     {
         match self.place_of(sid) {
             None => Ok(no_session(sid)),

@@ -1,7 +1,8 @@
 -- What an alter keeps, and why it is refused.
-use Rattle.std.proofs.Common.{◌≡◌, ℕ, ◌+◌, ◌<◌, ◌≤◌, ◌^◌, true, false, List, [], ◌∷◌, ◌++◌, Some, None, refl, ap, subst, sym, ◌∙◌, arith}
+use Rattle.std.proofs.Common.{◌≡◌, ℕ, ◌+◌, ◌<◌, ◌≤◌, ◌^◌, true, false, List, [], ◌∷◌, ◌++◌, Option, Some, None, refl, ap, subst, sym, ◌∙◌, arith}
 use Rattle.std.specs.Prelude.{filter, option_map, ◌==◌, map}
 use Rattle.std.specs.Arc.{arc_value}
+use Rattle.std.specs.Option.{IfSome}
 use Rattle.std.specs.List.{AllByRecursion}
 use Rattle.std.proofs.lemmas.Grind.{common_steps}
 use Rattle.dg_schema.specs.declared.definition.PredDef.{PredDef}
@@ -45,6 +46,11 @@ least_first h line start (x ∷ xs) same a e =
 pub no_first : (xs : List ℕ) → None ≡ oracle.first_start xs → xs ≡ []
 no_first [] e = refl
 no_first (x ∷ xs) e = absurd (cc)
+
+-- a first start that was found is the least
+pub found_first : (h : List Entry) (line : ℕ) (o : Option ℕ) (xs : List ℕ) → xs ≡ starts_of (active h) → oracle.Ascends line xs → o ≡ oracle.first_start xs → IfSome o (IsLeastStart h)
+found_first h line None xs same a e = tt
+found_first h line (Some start) xs same a e = least_first h line start xs same a e
 
 -- no tablet is held
 pub none_first_held : (places : List Place) (newer : List PredDef) → AllByRecursion (λ def. is_held places def.name ≡ false) newer → first_held places newer ≡ None

@@ -24,7 +24,7 @@ IsLawfulWorld w = IsLawful w.schema w.graph
 -- ---- the present world
 
 lawful_next : (n : ℕ) (g : List Entry) (author : ℕ) (event : Event) → IsLegal n g → Fits n g author event → IsLawfulWorld (world g) → IsLawfulWorld (world_after (world g) event)
-lawful_next n g author (Commit start preds keys written) l f w =
+lawful_next n g author (Commit start preds keys asked written) l f w =
     stays_lawful (schema g) (world g).graph (changes_of written.parts)
     (subst (λ (s : List PredDef). AllFit s (changes_of written.parts)) (schemas_stay n g start author l f.active) (sound_fits (schema_at g start) (graph_at g start []) preds keys written.parts f.sound))
     w
@@ -42,9 +42,9 @@ present_lawful n h l = kept_from n (λ a. Unit {0}) (λ g. IsLawfulWorld (world 
 -- a commit or an alter at or below a timestamp comes after all before it
 stamped : (n : ℕ) (g : List Entry) (author : ℕ) (event : Event) (at : ℕ) → Fits n g author event → (v : Bool) → nat_le (stamp event) at ≡ v → (last g ≤ at → world_at g at ≡ world g) → IsLawfulWorld (world_at g at) → IsLawfulWorld (world_after (world g) event) → IsLawfulWorld (cond v (world_after (world_at g at) event) (world_at g at))
 stamped n g author event at f false e same w p = w
-stamped n g author (Commit start preds keys written) at f true e same w p =
+stamped n g author (Commit start preds keys asked written) at f true e same w p =
     let le : last g ≤ at = grind (arith, common_steps, f.ts) in
-    subst (λ (v : World). IsLawfulWorld (world_after v (Commit start preds keys written))) (sym (same le)) p
+    subst (λ (v : World). IsLawfulWorld (world_after v (Commit start preds keys asked written))) (sym (same le)) p
 stamped n g author (Alter start newer written) at f true e same w p =
     let le : last g ≤ at = grind (arith, common_steps, f.1.ts, f.1.start_is) in
     subst (λ (v : World). IsLawfulWorld (world_after v (Alter start newer written))) (sym (same le)) p

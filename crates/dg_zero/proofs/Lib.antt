@@ -15,3 +15,4 @@ pub mod Streams
 pub mod EmptyOffers
 pub mod SeenEvents
 pub mod SeenObjects
+pub mod PresentTriples

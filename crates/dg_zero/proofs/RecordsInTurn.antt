@@ -31,7 +31,7 @@ none_more rs a b le t =
     rw append-nil (record { ascend = t.ascend; drawn_are = below_more a b (map ts_of rs) le t.drawn_are })
 
 in_turn_after : (n : ℕ) (g : List Entry) (author : ℕ) (event : Event) → Fits n g author event → AreBelow (records g) (next g) → AreBelow (records g ++ record_of event) (next g + drawn event)
-in_turn_after n g author (Commit start preds keys written) f t = one_more (records g) written (next g) (next g + 1) (omega arith) (omega (arith, f.ts)) (omega (arith, f.ts)) t
+in_turn_after n g author (Commit start preds keys asked written) f t = one_more (records g) written (next g) (next g + 1) (omega arith) (omega (arith, f.ts)) (omega (arith, f.ts)) t
 in_turn_after n g author (Alter start newer written) f t = one_more (records g) written (next g) (next g + 2) (omega arith) (omega (arith, f.1.ts, f.1.start_is)) (omega (arith, f.1.ts, f.1.start_is)) t
 in_turn_after n g author event f t = none_more (records g) (next g) (next g + drawn event) (omega arith) t
 

@@ -15,8 +15,8 @@ use Rattle.dg_zero.specs.Seen.{is_upto, where_upto, events_upto, world_of, HasDi
 -- ---- the world at a timestamp
 
 one_event : (at : ℕ) (event : Event) (more : List Event) (w : World) → fold world_after (cond (nat_le (stamp event) at) (world_after w event) w) more ≡ fold world_after w (cond (is_upto at event) (event ∷ more) more)
-one_event at (Commit start preds keys written) more w =
-    elim (nat_le written.ts at) as (λ v. fold world_after (cond v (world_after w (Commit start preds keys written)) w) more ≡ fold world_after w (cond v (Commit start preds keys written ∷ more) more)) [ true ↦ refl | false ↦ refl ]
+one_event at (Commit start preds keys asked written) more w =
+    elim (nat_le written.ts at) as (λ v. fold world_after (cond v (world_after w (Commit start preds keys asked written)) w) more ≡ fold world_after w (cond v (Commit start preds keys asked written ∷ more) more)) [ true ↦ refl | false ↦ refl ]
 one_event at (Alter start newer written) more w =
     elim (nat_le written.ts at) as (λ v. fold world_after (cond v (world_after w (Alter start newer written)) w) more ≡ fold world_after w (cond v (Alter start newer written ∷ more) more)) [ true ↦ refl | false ↦ refl ]
 one_event at event more w = elim (nat_le 0 at) as (λ v. fold world_after (cond v w w) more ≡ fold world_after w more) [ true ↦ refl | false ↦ refl ]
@@ -75,3 +75,10 @@ distinct_after n g (e ∷ h) at l =
 
 pub events_distinct : (n : ℕ) (h : List Entry) (at : ℕ) → IsLegal n h → AllByRecursion HasDistinct (events_upto h at)
 events_distinct n h at l = distinct_after n [] h at l
+
+all_after : (n : ℕ) (g h : List Entry) → IsLegalAfter n g h → AllByRecursion HasDistinct (map (λ (e : Entry). e.event) h)
+all_after n g [] l = tt
+all_after n g (e ∷ h) l = (distinct_of n g e.author e.event l.0, all_after n (g ++ e ∷ []) h l.1)
+
+pub all_distinct : (n : ℕ) (h : List Entry) → IsLegal n h → AllByRecursion HasDistinct (map (λ (e : Entry). e.event) h)
+all_distinct n h l = all_after n [] h l

@@ -82,14 +82,14 @@ single_joined older newer p a = ap is_single_by (definition_joined older newer p
     by (Some d) = refl
 
 one_event : (p : List ℕ) (s : ℕ) (w : World) (event : Event) → Ascends triple_cmp w.graph → HasDistinct event → standing_in p s (world_after w event) ≡ standing_after p s (standing_in p s w) event
-one_event p s w (Commit start preds keys written) a d =
+one_event p s w (Commit start preds keys asked written) a d =
     (λ i. record { single = is_single w.schema p; objects = objects_after_all w.schema w.graph (changes_of written.parts) p s a i })
     ∙ in_parts w.schema p s (objects w.graph p s) written.parts
 one_event p s w (Alter start newer written) a d = λ i. record { single = single_joined w.schema newer p d i; objects = objects w.graph p s }
 one_event p s w event a d = refl
 
 stays_ascending : (w : World) (event : Event) → Ascends triple_cmp w.graph → Ascends triple_cmp (world_after w event).graph
-stays_ascending w (Commit start preds keys written) a = changes_ascend w.schema w.graph (changes_of written.parts) a
+stays_ascending w (Commit start preds keys asked written) a = changes_ascend w.schema w.graph (changes_of written.parts) a
 stays_ascending w event a = a
 
 events_from : (p : List ℕ) (s : ℕ) (w : World) (events : List Event) → Ascends triple_cmp w.graph → AllByRecursion HasDistinct events → standing_in p s (fold world_after w events) ≡ fold (standing_after p s) (standing_in p s w) events

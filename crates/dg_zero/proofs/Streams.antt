@@ -63,6 +63,6 @@ none_before h e r after is le a =
 
 -- behind an event whose record isn't above the timestamp there is none before it
 pub none_past : (h : List Entry) (author : ℕ) (event : Event) (after : ℕ) → list_any (λ r. nat_le r.ts after) (record_of event) ≡ true → Ascends 0 (map ts_of (records (h ++ (record { author = author; event = event }) ∷ []))) → next_record (h ++ (record { author = author; event = event }) ∷ []) after ≡ None
-none_past h author (Commit start preds keys written) after e a = let le : written.ts ≤ after = grind (arith, common_steps) in none_before h (record { author = author; event = Commit start preds keys written }) written after refl le a
+none_past h author (Commit start preds keys asked written) after e a = let le : written.ts ≤ after = grind (arith, common_steps) in none_before h (record { author = author; event = Commit start preds keys asked written }) written after refl le a
 none_past h author (Alter start newer written) after e a = let le : written.ts ≤ after = grind (arith, common_steps) in none_before h (record { author = author; event = Alter start newer written }) written after refl le a
 none_past h author event after e a = absurd (cc)

@@ -83,7 +83,7 @@ pub record FitsRolled (history : List Entry) (pred : List ℕ) (group upto : ℕ
 -- an event of an author fits the entries before it, with n groups
 abbrev pub Fits : ℕ → List Entry → ℕ → Event → Type 0
 Fits n history author (events.Begin start) = (start ≡ next history) × (start < 2 ^ 62)
-Fits n history author (events.Commit start preds keys written) = FitsCommit history author start preds keys written
+Fits n history author (events.Commit start preds keys asked written) = FitsCommit history author start preds keys written
 Fits n history author (events.Refused start reason) = (is_active_of (active history) start author ≡ true) × IsReason history start reason
 Fits n history author (events.End start) = is_active_of (active history) start author ≡ true
 Fits n history author (events.Lease top count first) = FitsLease history top count first

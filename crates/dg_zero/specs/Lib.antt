@@ -12,3 +12,4 @@ pub mod Records
 pub mod States
 pub mod Altering
 pub mod Seen
+pub mod Present

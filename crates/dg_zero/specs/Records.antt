@@ -12,7 +12,7 @@ use Rattle.dg_zero.specs.declared.entry.Event.TheVariants.{Commit, Alter}
 
 -- what an event gives groups to apply
 abbrev pub record_of : Event → List Record
-record_of (Commit start preds keys written) = written ∷ []
+record_of (Commit start preds keys asked written) = written ∷ []
 record_of (Alter start newer written) = written ∷ []
 record_of event = []
 

@@ -19,7 +19,7 @@ use Rattle.dg_zero.specs.Worlds.{World, world_after, empty_world}
 
 -- a commit or an alter at or below a timestamp
 abbrev pub is_upto : ℕ → Event → Bool
-is_upto at (Commit start preds keys written) = nat_le written.ts at
+is_upto at (Commit start preds keys asked written) = nat_le written.ts at
 is_upto at (Alter start newer written) = nat_le written.ts at
 is_upto at event = false
 
@@ -73,6 +73,6 @@ is_single_after newer p single = option_map_or (λ d. not d.list) (definition_of
 
 -- after an event
 abbrev pub standing_after : List ℕ → ℕ → Standing → Event → Standing
-standing_after p s st (Commit start preds keys written) = fold (standing_after_part p s) st written.parts
+standing_after p s st (Commit start preds keys asked written) = fold (standing_after_part p s) st written.parts
 standing_after p s st (Alter start newer written) = record { single = is_single_after newer p st.single; objects = st.objects }
 standing_after p s st event = st

@@ -87,7 +87,7 @@ commit_fault_of offer (draws.TimestampsSpent next) = commits.TimestampsSpent nex
 
 -- the entry of an offer that is committed
 abbrev pub commit_of : Offer → ℕ → Event
-commit_of offer ts = events.Commit offer.start offer.preds offer.keys (record { ts = ts; fresh = []; parts = offer.parts })
+commit_of offer ts = events.Commit offer.start offer.preds offer.keys offer.changes (record { ts = ts; fresh = []; parts = offer.parts })
 
 -- a refused commit names its reason and ends the transaction, or hands the offer back and leaves it active
 abbrev pub IsRefusal : Zero → Zero → ℕ → Offer → CommitFault → Type 0

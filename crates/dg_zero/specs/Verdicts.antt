@@ -18,7 +18,7 @@ use Rattle.dg_zero.specs.Places.{tablets, is_held}
 
 -- the keys that an event commits
 abbrev pub commit_of : Event → List (oracle.Commit ConflictKey)
-commit_of (events.Commit start preds keys written) = (record { ts = written.ts; keys = keys }) ∷ []
+commit_of (events.Commit start preds keys asked written) = (record { ts = written.ts; keys = keys }) ∷ []
 commit_of event = []
 
 -- all commits of a history with their keys

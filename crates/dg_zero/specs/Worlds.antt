@@ -41,12 +41,12 @@ empty_world = record { schema = []; graph = [] }
 -- after an event: an alter adds or replaces definitions, and the data parts of a commit are changes under the schema at its timestamp
 abbrev pub world_after : World → Event → World
 world_after w (Alter start newer written) = record { schema = with_definitions w.schema newer; graph = w.graph }
-world_after w (Commit start preds keys written) = record { schema = w.schema; graph = after_changes w.schema w.graph (changes_of written.parts) }
+world_after w (Commit start preds keys asked written) = record { schema = w.schema; graph = after_changes w.schema w.graph (changes_of written.parts) }
 world_after w event = w
 
 -- the timestamp at which an event changes the world
 abbrev pub stamp : Event → ℕ
-stamp (Commit start preds keys written) = written.ts
+stamp (Commit start preds keys asked written) = written.ts
 stamp (Alter start newer written) = written.ts
 stamp event = 0
 

@@ -77,7 +77,7 @@ impl ZeroState {
         CommitFault::Conflict { key, ts }
     }
 
-    // Commits an offer whose keys are clear. The parts are moved into the history.
+    // Commits an offer whose keys are clear. The changes and the parts are moved into the history.
     fn write(
         &mut self,
         slip: Slip,
@@ -117,6 +117,7 @@ fn written(alloc: Global, offer: Offer, ts: u64) -> Event
         start,
         preds,
         keys,
+        changes,
         parts,
     } = offer;
     let written = Record {
@@ -128,6 +129,7 @@ fn written(alloc: Global, offer: Offer, ts: u64) -> Event
         start,
         preds,
         keys,
+        changes,
         written,
     }
 }

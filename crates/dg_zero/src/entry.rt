@@ -1,4 +1,5 @@
 // What a history is made of.
+use dg_graph::Change;
 use dg_keys::{ConflictKey, Record};
 use dg_schema::Schema;
 use dg_values::{List, Str};
@@ -19,11 +20,13 @@ pub enum Event {
     Begin {
         start: u64,
     },
-    /// The transaction with this start committed: its predicates, its conflict keys, and what it changes.
+    /// The transaction with this start committed: its predicates, its conflict keys, its changes as they were asked for, and
+    /// what posting lists gain and lose by them.
     Commit {
         start: u64,
         preds: List<Str>,
         keys: List<ConflictKey>,
+        changes: List<Change>,
         written: Record,
     },
     /// The commit of the transaction with this start was refused, which ended it.

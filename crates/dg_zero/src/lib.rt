@@ -15,6 +15,7 @@ mod offer;
 mod owners;
 mod past;
 mod place;
+mod present;
 mod seen;
 mod stream;
 mod zero;

@@ -1,4 +1,5 @@
 // What a transaction offers to commit.
+use dg_graph::Change;
 use dg_keys::{ConflictKey, Part};
 use dg_values::{List, Str};
 
@@ -11,6 +12,8 @@ pub struct Offer {
     pub preds: List<Str>,
     /// Its conflict keys, ascending.
     pub keys: List<ConflictKey>,
-    /// What becomes of posting lists, ascending by key.
+    /// Its changes in the order in which they were asked for, which the history keeps.
+    pub changes: List<Change>,
+    /// What becomes of posting lists by them, ascending by key.
     pub parts: List<Part>,
 }

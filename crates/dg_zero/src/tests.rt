@@ -12,6 +12,7 @@ use crate::{CommitFault, Event, Offer, Phase, Slip, ZeroState};
 use dg_delta::Op;
 use dg_graph::Snapshot;
 use dg_keys::{ConflictKey, Key, Part, Record};
+use dg_oracle::Verdict;
 use dg_schema::{PredDef, Schema};
 use dg_values::{Kind, List, Mem, OutOfMemory, Posting, Str, Value};
 use std::alloc::Global;
@@ -62,6 +63,7 @@ fn offer(alloc: Global, start: u64, s: u64) -> Mem<Offer>
         start,
         preds,
         keys,
+        changes: List::new(alloc),
         parts: no_parts(alloc),
     })
 }
@@ -233,6 +235,7 @@ fn commit_of(alloc: Global, s: u64, op: Op) -> Mem<Event> {
         start: 3,
         preds: List::new(alloc),
         keys: List::new(alloc),
+        changes: List::new(alloc),
         written: Record {
             ts: 4,
             fresh: List::new(alloc),
@@ -278,5 +281,50 @@ fn a_name_of_another_and_one_that_is_deleted(rt: HostRuntime) -> Result<(), Fail
     let gone = del(alloc, 1, "Bob")?;
     assert!(rt; is_sole(alloc, &[&other, &bob], "Bob")?);
     assert!(rt; objects_after(alloc, &[&bob, &gone, &other], "name", 1)?.is_empty());
+    Ok(())
+}
+
+#[test]
+fn the_verdict_where_nothing_was_committed(rt: HostRuntime) -> Result<(), Fail> {
+    let alloc = rt.alloc();
+    let zero = ZeroState::new(alloc, 2)?;
+    let offer = offer(alloc, 1, 1)?;
+    let verdict = zero.judge(offer.start, offer.keys.as_slice());
+    assert!(rt; matches!(verdict, Verdict::Clear));
+    Ok(())
+}
+
+#[test]
+fn the_present_of_nothing(rt: HostRuntime) -> Result<(), Fail> {
+    let alloc = rt.alloc();
+    let zero = ZeroState::new(alloc, 2)?;
+    assert!(rt; zero.schema().lookup("name").is_none());
+    assert_eq!(rt; zero.first_active(), None);
+    assert!(rt; !zero.has_triple(alloc, "name")?);
+    Ok(())
+}
+
+#[test]
+fn the_present_after_an_alter_and_a_commit(rt: HostRuntime) -> Result<(), Fail> {
+    let alloc = rt.alloc();
+    let mut zero = ZeroState::new(alloc, 2)?;
+    let _altered = declared(alloc, &mut zero)?;
+    let start = begun(alloc, &mut zero, 1)?;
+    let done = committed(alloc, &mut zero, 1, start)?.ok();
+    assert_eq!(rt; done, Some(4));
+    assert!(rt; zero.schema().lookup("name").is_some());
+    assert_eq!(rt; zero.first_active(), None);
+    assert!(rt; !zero.has_triple(alloc, "name")?);
+    Ok(())
+}
+
+#[test]
+fn the_first_of_two_starts(rt: HostRuntime) -> Result<(), Fail> {
+    let alloc = rt.alloc();
+    let mut zero = ZeroState::new(alloc, 2)?;
+    let first = begun(alloc, &mut zero, 1)?;
+    let second = begun(alloc, &mut zero, 2)?;
+    assert_eq!(rt; (first, second), (1, 2));
+    assert_eq!(rt; zero.first_active(), Some(1));
     Ok(())
 }

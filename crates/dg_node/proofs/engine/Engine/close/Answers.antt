@@ -3,7 +3,7 @@ use Rattle.std.specs.Prelude.{◌==◌, position}
 use Rattle.dg_node.specs.declared.engine.Opened.{Opened}
 use Rattle.dg_node.specs.Kept.{Held, IsKept}
 use Rattle.dg_node.specs.Machine.{without_session}
-use Rattle.dg_node.specs.State.{StandsFor, StandFor}
+use Rattle.dg_node.proofs.Standing.{Stands, StandFor, from_all}
 use Rattle.dg_node.proofs.OneAmong.{around, around_place}
 use Rattle.dg_node.proofs.SessionLemmas.{own_active, closed_kept, closed_stands}
 use Rattle.dg_node.proofs.engine.Engine.close.Goals as goal
@@ -24,12 +24,12 @@ invariant_of-self c =
     (closed_kept c.self.inside.zero os c.self.invariant a.0 c.args.place a.1 c.remove-opened.result c.remove-opened.ensures.value c.end.result c.end.new.self c.end.ensures.was_active c.end.ensures.history c.end.ensures.legal)
 
 pub returns : goal.returns
-returns c = λ sid at m s.
+returns c = λ sid at. from_all (λ m s.
     let os = c.self.inside.sessions.items in
     let here : position (λ (o : Opened). o.sid == sid) os ≡ Some c.args.place = subst (λ (h : Held). position (λ (o : Opened). o.sid == sid) h.opened ≡ Some c.args.place) (sym c.self.view_is) at in
-    let stood : StandFor c.self.inside.zero os m = subst (λ (h : Held). StandsFor h m) (sym c.self.view_is) s in (
+    let stood : StandFor c.self.inside.zero os m = subst (λ (h : Held). Stands h m) (sym c.self.view_is) s in (
       without_session m sid,
       refl,
       subst (λ (l : List Opened). StandFor c.end.new.self l (without_session m sid)) (sym c.remove-opened.ensures.items)
           (closed_stands c.self.inside.zero os c.self.invariant sid c.args.place (around (λ (o : Opened). o.sid) sid os c.args.place here) c.remove-opened.result c.remove-opened.ensures.value c.end.result c.end.new.self c.end.ensures.was_active c.end.ensures.history m stood),
-    )
+    ))

@@ -3,7 +3,7 @@ use Rattle.std.specs.Prelude.{◌==◌, position, slice_get, IfSome, Option}
 use Rattle.dg_zero.specs.Counters.{active, is_active_of}
 use Rattle.dg_node.specs.declared.engine.Opened.{Opened}
 use Rattle.dg_node.specs.Kept.{Held, IsKept}
-use Rattle.dg_node.specs.State.{StandsFor, StandFor}
+use Rattle.dg_node.proofs.Standing.{Stands, StandFor, from_all, stays_all}
 use Rattle.dg_node.proofs.OneAmong.{around, it_is, get_is}
 use Rattle.dg_node.proofs.KeptLemmas.{active_here}
 use Rattle.dg_node.proofs.SessionLemmas.{looked_kept, looked_stand}
@@ -148,58 +148,58 @@ invariant_of-self-in-OutOfMemory-this c =
     looked_kept c.self.inside.zero c.commit.new.self c.self.inside.sessions.items c.in_ok-slip.slip c.self.invariant fault.1 c.in-Err-OutOfMemory.ensures.legal
 
 pub returns-in-Ok-clause-ok : goal.returns-in-Ok-clause-ok
-returns-in-Ok-clause-ok c = λ m s.
+returns-in-Ok-clause-ok c = from_all (λ m s.
     let z = c.self.inside.zero in
     let os = c.self.inside.sessions.items in
     let at : position (λ (o : Opened). o.sid == c.args.sid) os ≡ Some c.args.place = subst (λ (h : Held). position (λ (o : Opened). o.sid == c.args.sid) h.opened ≡ Some c.args.place) (sym c.self.view_is) c.requires.at in
     let a = around (λ (o : Opened). o.sid) c.args.sid os c.args.place at in
     let asked : IfSome (slice_get os c.args.place) (λ (o : Opened). o.own ≢ []) = subst (λ (h : Held). IfSome (slice_get h.opened c.args.place) (λ (o : Opened). o.own ≢ [])) (sym c.self.view_is) c.requires.some in
     let some : a.it.own ≢ [] = subst (λ (x : Option Opened). IfSome x (λ (o : Opened). o.own ≢ [])) (get_is (λ (o : Opened). o.sid) c.args.sid os c.args.place a) asked in
-    let stood : StandFor z os m = subst (λ (h : Held). StandsFor h m) (sym c.self.view_is) s in
+    let stood : StandFor z os m = subst (λ (h : Held). Stands h m) (sym c.self.view_is) s in
     let steps = done_steps z os c.self.invariant c.args.sid c.args.place a c.index.result.now c.index.ensures c.in_ok-offer.offer c.in_ok-offer.ensures c.in_ok-slip.slip c.in_ok-slip.ensures c.in-Ok.ts c.commit.new.self m c.in-Ok.ensures.ok c.in-Ok.ensures.ts c.in-Ok.ensures.clear c.in-Ok.ensures.not_spent some stood in
-    (steps.0, steps.1, subst (λ (l : List Opened). StandFor c.commit.new.self l steps.0) (sym c.remove.ensures.items) steps.2)
+    (steps.0, steps.1, subst (λ (l : List Opened). StandFor c.commit.new.self l steps.0) (sym c.remove.ensures.items) steps.2))
 
 pub returns-in-Err-Conflict-clause-ok : goal.returns-in-Err-Conflict-clause-ok
-returns-in-Err-Conflict-clause-ok c = λ m s.
+returns-in-Err-Conflict-clause-ok c = from_all (λ m s.
     let z = c.self.inside.zero in
     let os = c.self.inside.sessions.items in
     let at : position (λ (o : Opened). o.sid == c.args.sid) os ≡ Some c.args.place = subst (λ (h : Held). position (λ (o : Opened). o.sid == c.args.sid) h.opened ≡ Some c.args.place) (sym c.self.view_is) c.requires.at in
     let a = around (λ (o : Opened). o.sid) c.args.sid os c.args.place at in
     let asked : IfSome (slice_get os c.args.place) (λ (o : Opened). o.own ≢ []) = subst (λ (h : Held). IfSome (slice_get h.opened c.args.place) (λ (o : Opened). o.own ≢ [])) (sym c.self.view_is) c.requires.some in
     let some : a.it.own ≢ [] = subst (λ (x : Option Opened). IfSome x (λ (o : Opened). o.own ≢ [])) (get_is (λ (o : Opened). o.sid) c.args.sid os c.args.place a) asked in
-    let stood : StandFor z os m = subst (λ (h : Held). StandsFor h m) (sym c.self.view_is) s in
+    let stood : StandFor z os m = subst (λ (h : Held). Stands h m) (sym c.self.view_is) s in
     let fault = rw c.in-Err-Conflict.field-0-is at c.in-Err-Conflict.ensures.fault in
     let steps = conflict_steps z os c.self.invariant c.args.sid c.args.place a c.index.result.now c.index.ensures c.in_ok-offer.offer c.in_ok-offer.ensures c.in_ok-slip.slip c.in_ok-slip.ensures _ c.in-Err-Conflict.ts c.in_ok-key.key c.commit.new.self m fault.1 c.in_ok-key.ensures fault.0 some stood in
     let after : c.match-this-2.self ≡ record { zero = c.commit.new.self; opened = c.remove-in-Err-Conflict.new.self.items } = elim c.match-this-2.branch [ in-Err-this-2+in-Conflict+in-Data+in-Some+in-Val+in-Text-1 w ↦ w.self-is | in-Err-this-2+in-Conflict+in-Data+in-Some+in-Val+in-Int-1 w ↦ w.self-is | in-Err-this-2+in-Conflict+in-Data+in-Some+in-Uid-1 w ↦ w.self-is | in-Err-this-2+in-Conflict+in-Data+in-None-1 w ↦ w.self-is | in-Err-this-2+in-Conflict+in-Index+in-Text-1 w ↦ w.self-is | in-Err-this-2+in-Conflict+in-Index+in-Int-1 w ↦ w.self-is | in-Err-this-2+in-Conflict+in-Count-1 w ↦ w.self-is | in-Err-this-2+in-Conflict+in-RCount-1 w ↦ w.self-is | in-Err-this-2+in-OutOfMemory-1 w ↦ w.self-is | in-Ok-3 w ↦ w.self-is ] in
     let moved : StandFor c.commit.new.self c.remove-in-Err-Conflict.new.self.items steps.0 = subst (λ (l : List Opened). StandFor c.commit.new.self l steps.0) (sym c.remove-in-Err-Conflict.ensures.items) steps.2 in
-    (steps.0, steps.1, subst (λ (h : Held). StandsFor h steps.0) (sym after) moved)
+    (steps.0, steps.1, subst (λ (h : Held). Stands h steps.0) (sym after) moved))
 
 pub returns-in-Err-Moving-clause-ok : goal.returns-in-Err-Moving-clause-ok
-returns-in-Err-Moving-clause-ok c = λ m s.
+returns-in-Err-Moving-clause-ok c = from_all (λ m s.
     let z = c.self.inside.zero in
     let os = c.self.inside.sessions.items in
     let at : position (λ (o : Opened). o.sid == c.args.sid) os ≡ Some c.args.place = subst (λ (h : Held). position (λ (o : Opened). o.sid == c.args.sid) h.opened ≡ Some c.args.place) (sym c.self.view_is) c.requires.at in
     let a = around (λ (o : Opened). o.sid) c.args.sid os c.args.place at in
     let fault = rw c.in-Err-Moving.field-0-is at c.in-Err-Moving.ensures.fault in
-    absurd (moves_never z os c.self.invariant c.args.sid c.args.place a c.index.result.now c.index.ensures c.in_ok-offer.offer c.in_ok-offer.ensures c.in_ok-slip.slip c.in_ok-slip.ensures _ fault.0)
+    absurd (moves_never z os c.self.invariant c.args.sid c.args.place a c.index.result.now c.index.ensures c.in_ok-offer.offer c.in_ok-offer.ensures c.in_ok-slip.slip c.in_ok-slip.ensures _ fault.0))
 
 pub returns-in-Err-TimestampsSpent-clause-ok : goal.returns-in-Err-TimestampsSpent-clause-ok
-returns-in-Err-TimestampsSpent-clause-ok c = λ m s.
+returns-in-Err-TimestampsSpent-clause-ok c = from_all (λ m s.
     let z = c.self.inside.zero in
     let os = c.self.inside.sessions.items in
     let at : position (λ (o : Opened). o.sid == c.args.sid) os ≡ Some c.args.place = subst (λ (h : Held). position (λ (o : Opened). o.sid == c.args.sid) h.opened ≡ Some c.args.place) (sym c.self.view_is) c.requires.at in
     let a = around (λ (o : Opened). o.sid) c.args.sid os c.args.place at in
     let asked : IfSome (slice_get os c.args.place) (λ (o : Opened). o.own ≢ []) = subst (λ (h : Held). IfSome (slice_get h.opened c.args.place) (λ (o : Opened). o.own ≢ [])) (sym c.self.view_is) c.requires.some in
     let some : a.it.own ≢ [] = subst (λ (x : Option Opened). IfSome x (λ (o : Opened). o.own ≢ [])) (get_is (λ (o : Opened). o.sid) c.args.sid os c.args.place a) asked in
-    let stood : StandFor z os m = subst (λ (h : Held). StandsFor h m) (sym c.self.view_is) s in
+    let stood : StandFor z os m = subst (λ (h : Held). Stands h m) (sym c.self.view_is) s in
     let fault = rw c.in-Err-TimestampsSpent.field-0-is at c.in-Err-TimestampsSpent.ensures.fault in (
       m,
       spent_reply z os c.self.invariant c.args.sid c.args.place a c.index.result.now c.index.ensures c.in_ok-offer.offer c.in_ok-offer.ensures c.in_ok-slip.slip c.in_ok-slip.ensures c.in-Err-TimestampsSpent.next m fault.0 fault.1 fault.2 some stood,
       looked_stand z c.commit.new.self os m c.in_ok-slip.slip fault.4 stood,
-    )
+    ))
 
 pub returns-in-Err-OutOfMemory-clause-err : goal.returns-in-Err-OutOfMemory-clause-err
-returns-in-Err-OutOfMemory-clause-err c = λ m s.
-    let stood : StandFor c.self.inside.zero c.self.inside.sessions.items m = subst (λ (h : Held). StandsFor h m) (sym c.self.view_is) s in
+returns-in-Err-OutOfMemory-clause-err c = stays_all c.args.self.now (record { zero = c.commit.new.self; opened = c.self.inside.sessions.items }) (λ m s.
+    let stood : StandFor c.self.inside.zero c.self.inside.sessions.items m = subst (λ (h : Held). Stands h m) (sym c.self.view_is) s in
     let fault = rw c.in-Err-OutOfMemory.field-0-is at c.in-Err-OutOfMemory.ensures.fault in
-    looked_stand c.self.inside.zero c.commit.new.self c.self.inside.sessions.items m c.in_ok-slip.slip fault.1 stood
+    looked_stand c.self.inside.zero c.commit.new.self c.self.inside.sessions.items m c.in_ok-slip.slip fault.1 stood)
