@@ -1,0 +1,2 @@
+-- Lemmas on the text of an answer.
+pub mod Commas
