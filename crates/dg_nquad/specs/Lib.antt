@@ -1,0 +1,5 @@
+-- What mutations say.
+pub mod Words
+pub mod Grammar
+pub mod Whole
+pub mod Sizes

@@ -1,0 +1,21 @@
+//! Mutations: the language of their statements, which say what is set and what is deleted.
+//!
+//! [`read_mutation`] gives the statements of a text in its order, or the place of its fault. The grammar is
+//! `specs/Grammar.antt`, written as it is read by the rules of `dg_text`.
+#![tactic(auto)]
+
+mod block;
+mod fault;
+mod grammar;
+mod mutation;
+mod reading;
+mod terms;
+mod tokens;
+mod words;
+
+pub use fault::NquadFault;
+pub use mutation::{Mutation, Node, Object, Statement};
+pub use reading::read_mutation;
+
+#[cfg(test)]
+mod tests;
