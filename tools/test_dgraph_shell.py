@@ -23,7 +23,8 @@ import dgraph_shell as tool
 HERE = Path(__file__).resolve().parent
 TOOL = [sys.executable, "-B", HERE / "dgraph_shell.py"]
 EXAMPLES = HERE.parent / "examples"
-ROWS = Path(os.environ.get("DGRAPH_ROWS", "/work/shared/rows"))
+# Scripts of others, if they lie beside the repository.
+ROWS = HERE.parent.parent / "shared" / "rows"
 
 # A program that answers the replies that it was told, one to a request, and then ends.
 PROGRAM = """#!{python} -IS
