@@ -141,12 +141,14 @@ class Verb:
         return f"{line}, and a body below" if self.has_body else line
 
 
+# Every verb of the language, also those that the program doesn't take yet: to it they are bad frames.
 VERBS = {
     verb.name: verb
     for verb in (
         Verb("alter", (), has_body=True),
         Verb("begin", (SESSION,)),
         Verb("mutate", (SESSION,), has_body=True, answers_body=True),
+        Verb("mutatejson", (SESSION,), has_body=True, answers_body=True),
         Verb("upsert", (SESSION,), has_body=True, answers_body=True),
         Verb("query", (SESSION,), has_body=True, answers_body=True),
         Verb("commit", (SESSION,)),
@@ -161,6 +163,7 @@ VERBS = {
         Verb("moveflip", (PREDICATE,)),
         Verb("moveoff", (PREDICATE,)),
         Verb("state", (), answers_body=True),
+        Verb("export", (SESSION,), answers_body=True),
     )
 }
 

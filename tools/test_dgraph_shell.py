@@ -308,8 +308,8 @@ def some(paths: Iterable[Path]) -> list[Path]:
 
 def are_showable(data: bytes) -> bool:
     """Whether some bytes are frames whose bodies can be shown, read without the tool."""
-    plain = r"(?:(?:begin|commit|discard) SID|line|state|movestart PRED SID|(?:roll|move)[a-z]* PRED)"
-    header = rf"(?:{plain}|alter(?P<a> \d+)|(?:mutate|upsert|query) SID(?P<b> \d+))\n"
+    plain = r"(?:(?:begin|commit|discard|export) SID|line|state|movestart PRED SID|(?:roll|move)[a-z]* PRED)"
+    header = rf"(?:{plain}|alter(?P<a> \d+)|(?:mutate|mutatejson|upsert|query) SID(?P<b> \d+))\n"
     header = header.replace("SID", r"(?:[1-9]|1[0-6])").replace("PRED", r"[A-Za-z_][\w.]*")
     while data:
         found = re.match(header.encode(), data)
@@ -345,7 +345,7 @@ class Replies(unittest.TestCase):
 
     def test_which_replies_have_bodies(self) -> None:
         with_bodies = [verb.name for verb in tool.VERBS.values() if verb.answers_body]
-        self.assertEqual(with_bodies, ["mutate", "upsert", "query", "state"])
+        self.assertEqual(with_bodies, ["mutate", "mutatejson", "upsert", "query", "state", "export"])
 
     def test_what_is_no_reply(self) -> None:
         for data, part in (
