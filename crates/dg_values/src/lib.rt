@@ -15,6 +15,7 @@ mod reading;
 #[cfg(test)]
 mod reading_tests;
 mod scalars;
+mod steps;
 #[cfg(test)]
 mod tests;
 mod text;
@@ -30,5 +31,6 @@ pub use moment::Moment;
 pub use order::{cmp_posting, cmp_value, posting_order_laws, value_order_laws};
 pub use printing::write_value;
 pub use reading::{ValueFault, read_value};
+pub use steps::Steps;
 pub use text::Str;
 pub use value::{Posting, Value};
