@@ -1,3 +1,5 @@
 pub mod MadeOrders
-pub mod Sets
+pub mod Merges
+pub mod OnceEach
 pub mod Places
+pub mod Sets

@@ -39,7 +39,7 @@ module _ {X : Type 0} (cmp : X → X → Ordering) (o : IsOrder cmp) (x : X) whe
   parted (y ∷ ys) a (suc i) (suc j) d le lt e = parted ys a.1 i j d (omega arith) (omega arith) e
 
   -- none of those above it is the item
-  none_taken : (ys : List X) → has cmp ys x ≡ false → without_one cmp ys x ≡ ys
+  pub none_taken : (ys : List X) → has cmp ys x ≡ false → without_one cmp ys x ≡ ys
   none_taken [] e = refl
   none_taken (y ∷ ys) e = by (is_eq (cmp y x)) refl e (λ h. none_taken ys h)
     where

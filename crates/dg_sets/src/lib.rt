@@ -1,12 +1,14 @@
-//! Vectors that ascend strictly by an order, kept as sets: looked into by halves, and changed at one place.
+//! Vectors that ascend strictly by an order, kept as sets: made by sorting, looked into by halves, and changed at one place.
 #![tactic(auto)]
 
-mod in_order;
+mod items;
 mod ordered;
 mod orders;
+mod sorting;
 
-pub use in_order::InOrder;
-pub use ordered::{is_there, place_of, put, take_out};
+pub use items::InOrder;
+pub use ordered::{ascend, is_there, place_of, put, take_out};
+pub use sorting::in_order;
 
 #[cfg(test)]
 mod tests;

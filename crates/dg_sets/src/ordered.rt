@@ -1,5 +1,5 @@
 // Vectors that ascend strictly, found in by halves and changed at one place.
-ghost use Rattle.std.specs.Prelude.{◌≡◌, ◌≤◌, IfOk, IfErr, OnOk, OnErr, true, false, length};
+ghost use Rattle.std.specs.Prelude.{◌≡◌, ◌≤◌, ◌↔◌, IsTrue, IfOk, IfErr, OnOk, OnErr, true, false, length};
 ghost use Rattle.std.specs.List.Sorted.{IsPartitionPoint};
 ghost use Rattle.std.specs.Ordering.{is_lt};
 ghost use Rattle.dg_values.specs.Ascending.{Ascends, has, with_one, without_one};
@@ -7,6 +7,13 @@ ghost use Rattle.dg_sets.specs.Placing.{StandsAt, BelongsAt};
 
 use crate::InOrder;
 use dg_values::{Mem, OutOfMemory};
+
+/// Whether items ascend strictly. It takes no memory.
+pub fn ascend<T: InOrder>(items: &[T]) -> bool
+    ensures { IsTrue result ↔ Ascends T.order items.now }
+{
+    items.is_sorted_by(|a, b| a.compare(b).is_lt())
+}
 
 // How many items are below this one.
 fn below<T: InOrder>(items: &[T], item: &T) -> usize

@@ -32,3 +32,18 @@ impl InOrder for Posting {
         cmp_posting(self, other)
     }
 }
+
+/// Numbers by size.
+impl InOrder for u64 {
+    ghost use Rattle.std.specs.Ordering.{nat_cmp};
+    ghost use Rattle.std.specs.Cmp.{nat_cmp_total, tied_itself};
+    ghost use Rattle.std.proofs.lemmas.Map.Lookups.{exact_unsigned};
+
+    ghost order = { nat_cmp };
+
+    ghost total = { record { antisymm = nat_cmp_total.antisymm; trans = nat_cmp_total.trans; same = exact_unsigned; itself = tied_itself nat_cmp_total } };
+
+    fn compare(&self, other: &u64) -> Ordering {
+        self.cmp(other)
+    }
+}
