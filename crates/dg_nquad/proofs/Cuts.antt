@@ -28,7 +28,7 @@ after_is c (b ∷ bs) None h = go (b == c) refl
     go false e = rw e
 after_is c (b ∷ bs) (Some x) h = sym (ap (after c) h ∙ after_at c x.now)
 
-before_at : (c : ℕ) (front : List ℕ) → before c (front ++ c ∷ []) ≡ Some front
+pub before_at : (c : ℕ) (front : List ℕ) → before c (front ++ c ∷ []) ≡ Some front
 before_at c front = rw (long, drop-append_seam front (c ∷ []), take-append_seam front (c ∷ []), same) refl
   where
     long : length (front ++ c ∷ []) - 1 ≡ length front

@@ -1,3 +1,5 @@
 pub mod Small
 pub mod HexLemmas
 pub mod Cuts
+pub mod NoVariables
+pub mod TokensSay

@@ -2,4 +2,6 @@
 pub mod Words
 pub mod Grammar
 pub mod Whole
+pub mod Plain
 pub mod Sizes
+pub mod Laws

@@ -7,6 +7,7 @@
 mod block;
 mod fault;
 mod grammar;
+mod laws;
 mod mutation;
 mod reading;
 mod terms;
@@ -14,6 +15,7 @@ mod tokens;
 mod words;
 
 pub use fault::NquadFault;
+pub use laws::tokens_say;
 pub use mutation::{Mutation, Node, Object, Statement};
 pub use reading::read_mutation;
 

@@ -1,6 +1,8 @@
 // A whole text as a mutation.
-ghost use Rattle.std.specs.Prelude.{◌≡◌, ◌≤◌, length, Ok};
+ghost use Rattle.std.specs.Prelude.{◌≡◌, ◌≤◌, length, IfOk, Ok};
+ghost use Rattle.std.specs.List.{AllByRecursion};
 ghost use Rattle.dg_text.specs.Tokens.{toks, AreCut};
+ghost use Rattle.dg_nquad.specs.Plain.{HasNoVariable};
 ghost use Rattle.dg_nquad.specs.Sizes.{AreSmall};
 ghost use Rattle.dg_nquad.specs.Whole.{offset_of, statements_of, by_tokens, mutation, Reads};
 
@@ -62,7 +64,7 @@ fn read_tokens(alloc: Global, text: &str, tokens: &[Token]) -> Result<Mutation, 
     }
 }
 
-/// The statements of a text, in its order.
+/// The statements of a text, in its order. None of them has a variable.
 ///
 /// `BadToken` has the offset of the first byte that begins no token, blank or comment, and is told before all else. Else
 /// `BadSyntax` has the offset of the first token that the grammar doesn't allow, or the length of the text where it ends
@@ -70,7 +72,8 @@ fn read_tokens(alloc: Global, text: &str, tokens: &[Token]) -> Result<Mutation, 
 /// sets, a Blank for a node in what deletes, and the word `uid` or `val` before `(`.
 pub fn read_mutation(alloc: Global, text: &str) -> Result<Mutation, NquadFault>
     requires { length text.now ≤ 1048576 }
-    ensures { Reads result (mutation text.now) }
+    ensures mutation { Reads result (mutation text.now) }
+    ensures plain { IfOk result (λ m. AllByRecursion HasNoVariable m.statements) }
 {
     match lex(alloc, text) {
         Ok(tokens) => read_tokens(alloc, text, tokens.as_slice()),
