@@ -4,6 +4,7 @@
 mod change;
 mod graph;
 mod laws;
+mod plain;
 mod runs;
 mod snapshot;
 mod subject;
@@ -11,6 +12,7 @@ mod subject;
 pub use change::{Change, Triple};
 pub use graph::Graph;
 pub use laws::{graphs, lists_of_graphs};
+pub use plain::Plain;
 pub use snapshot::Snapshot;
 pub use subject::{change_objects, is_of_subject, is_single};
 
