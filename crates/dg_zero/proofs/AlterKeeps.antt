@@ -60,12 +60,12 @@ none_first_held places newer a = ap (λ (ds : List PredDef). option_map (λ (d :
     none [] a = refl
     none (d ∷ ds) a = rw a.0 (none ds a.1)
 
-module _ (n : ℕ) (o : oracle.OracleState ConflictKey) (d : List PredDef) (ps : List Place) (w : List Tablet) (h : List Entry) (now : Zero) (groups : n ≡ now.groups) (view : h ≡ now.history) (author : ℕ) (k : IsKept n o d ps w h) where
+module _ (n : ℕ) (o : oracle.OracleState ConflictKey) (uid : ℕ) (d : List PredDef) (ps : List Place) (w : List Tablet) (h : List Entry) (now : Zero) (groups : n ≡ now.groups) (view : h ≡ now.history) (author : ℕ) (k : IsKept n o uid d ps w h) where
   pub held_nowhere : (newer : List PredDef) → first_held (tablets now.history) newer ≡ None
-  held_nowhere newer = subst (λ (x : List Entry). first_held (tablets x) newer ≡ None) view (none_first_held (tablets h) newer (none_held n o d ps w h author k newer))
+  held_nowhere newer = subst (λ (x : List Entry). first_held (tablets x) newer ≡ None) view (none_first_held (tablets h) newer (none_held n o uid d ps w h author k newer))
 
   -- what was made before anything changed is where the history leads then
-  pub altered_keeps : (newer : List PredDef) (parts : List Part) (a : Altered) (start ts : ℕ) (o2 : oracle.OracleState ConflictKey) (past : List Entry) → IsAltered now.groups (schema now.history) (tablets now.history) newer a → author ≡ 0 → active now.history ≡ [] → o.next + 1 < 2 ^ 62 → KeepKinds now.history newer → AreAlterParts now.history newer parts → start ≡ o.next → ts ≡ o.next + 1 → o2 ≡ oracle.two_drawn o → past ≡ and_entry h author (Alter start a.newer (record { ts = ts; fresh = a.fresh; parts = parts })) → IsKept n o2 (arc_value a.schema) a.tablets.items (arc_value a.owners) past
+  pub altered_keeps : (newer : List PredDef) (parts : List Part) (a : Altered) (start ts : ℕ) (o2 : oracle.OracleState ConflictKey) (past : List Entry) → IsAltered now.groups (schema now.history) (tablets now.history) newer a → author ≡ 0 → active now.history ≡ [] → o.next + 1 < 2 ^ 62 → KeepKinds now.history newer → AreAlterParts now.history newer parts → start ≡ o.next → ts ≡ o.next + 1 → o2 ≡ oracle.two_drawn o → past ≡ and_entry h author (Alter start a.newer (record { ts = ts; fresh = a.fresh; parts = parts })) → IsKept n o2 uid (arc_value a.schema) a.tablets.items (arc_value a.owners) past
   altered_keeps newer parts a start ts o2 past is own idle lt kinds are start_is ts_is drawn past_is =
       let back : now.groups ≡ n = sym groups in
       let declared : schema now.history ≡ d = sym (k.schema_is ∙ ap schema view) in
@@ -76,6 +76,6 @@ module _ (n : ℕ) (o : oracle.OracleState ConflictKey) (d : List PredDef) (ps :
       let owners_is : arc_value a.owners ≡ owners_of (ps ++ map fresh_place (fresh n ps newer)) = is.owners_are ∙ (λ i. owners_of (places i ++ map fresh_place (fresh (back i) (places i) newer))) in
       let event_is : Alter start a.newer (record { ts = ts; fresh = a.fresh; parts = parts }) ≡ Alter o.next newer (record { ts = o.next + 1; fresh = fresh n ps newer; parts = parts }) = λ i. Alter (start_is i) (is.newer_are i) (record { ts = ts_is i; fresh = fresh_is i; parts = parts }) in
       let none : o.active ≡ [] = k.active_are ∙ (ap (λ (x : List Entry). starts_of (active x)) view ∙ ap starts_of idle) in
-      let base = alter_keeps n o d ps w h author k newer parts own none lt is.distinct (subst (λ (x : List Entry). KeepKinds x newer) (sym view) kinds) (subst (λ (x : List Entry). AreAlterParts x newer parts) (sym view) are) in
+      let base = alter_keeps n o uid d ps w h author k newer parts own none lt is.distinct (subst (λ (x : List Entry). KeepKinds x newer) (sym view) kinds) (subst (λ (x : List Entry). AreAlterParts x newer parts) (sym view) are) in
       let past_at : past ≡ and_entry h author (Alter o.next newer (record { ts = o.next + 1; fresh = fresh n ps newer; parts = parts })) = past_is ∙ ap (λ (e : Event). and_entry h author e) event_is in
       rw (drawn, schema_is, tablets_is, owners_is, past_at) base

@@ -12,20 +12,20 @@ use Rattle.dg_keys.specs.declared.record.Tablet.{Tablet}
 use Rattle.dg_oracle.specs.Commits as oracle
 use Rattle.dg_zero.specs.declared.entry.Entry.{Entry}
 use Rattle.dg_zero.specs.declared.entry.Event.{Event}
-use Rattle.dg_zero.specs.declared.entry.Event.TheVariants.{Begin, Refused, End, Alter, Look}
+use Rattle.dg_zero.specs.declared.entry.Event.TheVariants.{Begin, Refused, End, Lease, Alter, Look}
 use Rattle.dg_zero.specs.declared.entry.Reason.{Reason}
 use Rattle.dg_zero.specs.declared.offer.Offer.{Offer}
 use Rattle.dg_zero.specs.declared.place.Phase.TheVariants.{Idle}
 use Rattle.dg_zero.specs.declared.place.Place.{Place}
-use Rattle.dg_zero.specs.Counters.{next, Started, active, starts_of, is_active_of}
-use Rattle.dg_zero.specs.Legal.{Fits, IsReason}
+use Rattle.dg_zero.specs.Counters.{next, next_uid_after, next_uid, Started, active, starts_of, is_active_of}
+use Rattle.dg_zero.specs.Legal.{Fits, FitsLease, IsReason}
 use Rattle.dg_zero.specs.Offers.{IsSound}
 use Rattle.dg_zero.specs.Places.{Places, places, places_after, tablets, fresh, fresh_place, is_held}
 use Rattle.dg_zero.specs.States.{IsKept, and_entry, commit_of, owners_of, KeepKinds, AreAlterParts}
 use Rattle.dg_zero.specs.Verdicts.{commits, verdict}
 use Rattle.dg_zero.specs.Worlds.{World, empty_world, world, world_after, schema, schema_at, graph_at}
 use Rattle.dg_zero.proofs.Refusals.{not_held}
-use Rattle.dg_zero.proofs.Histories.{next_push, active_push, places_push, commits_push, legal_push, starts_of_ended}
+use Rattle.dg_zero.proofs.Histories.{next_push, next_uid_push, active_push, places_push, commits_push, legal_push, starts_of_ended}
 
 -- ---- the schema and the tablets
 
@@ -41,16 +41,17 @@ pub record IsStill (event : Event) : Type 0 where
   pub places_stay : (s : Places) → places_after s event ≡ s
 
 -- what else a call has to show
-pub record Moves (n : ℕ) (o : oracle.OracleState ConflictKey) (h : List Entry) (author : ℕ) (event : Event) (o2 : oracle.OracleState ConflictKey) : Type 0 where
+pub record Moves (n : ℕ) (h : List Entry) (author : ℕ) (event : Event) (o2 : oracle.OracleState ConflictKey) (uid2 : ℕ) : Type 0 where
   pub fits : Fits n h author event
   pub next_is : o2.next ≡ next (and_entry h author event)
   pub active_are : o2.active ≡ starts_of (active (and_entry h author event))
   pub commits_are : o2.commits ≡ commits (and_entry h author event)
   pub line_is : o2.line ≡ 0
+  pub uid_moves : uid2 ≡ next_uid_after (next_uid h) event
 
-module _ (n : ℕ) (o : oracle.OracleState ConflictKey) (d : List PredDef) (ps : List Place) (w : List Tablet) (h : List Entry) (author : ℕ) (k : IsKept n o d ps w h) where
-  still_keeps : (event : Event) (o2 : oracle.OracleState ConflictKey) → IsStill event → Moves n o h author event o2 → IsKept n o2 d ps w (and_entry h author event)
-  still_keeps event o2 s m =
+module _ (n : ℕ) (o : oracle.OracleState ConflictKey) (uid : ℕ) (d : List PredDef) (ps : List Place) (w : List Tablet) (h : List Entry) (author : ℕ) (k : IsKept n o uid d ps w h) where
+  still_keeps : (event : Event) (o2 : oracle.OracleState ConflictKey) (uid2 : ℕ) → IsStill event → Moves n h author event o2 uid2 → IsKept n o2 uid2 d ps w (and_entry h author event)
+  still_keeps event o2 uid2 s m =
       let e : Entry = record { author = author; event = event } in
       let same : tablets (h ++ e ∷ []) ≡ tablets h = tablets_push h e ∙ ap (λ (p : Places). p.tablets) (s.places_stay (places h)) in
       record {
@@ -60,6 +61,7 @@ module _ (n : ℕ) (o : oracle.OracleState ConflictKey) (d : List PredDef) (ps :
         active_are = m.active_are;
         commits_are = m.commits_are;
         line_is = m.line_is;
+        uid_is = m.uid_moves ∙ sym (next_uid_push h e);
         schema_is = k.schema_is ∙ sym (schema_push h e ∙ s.schema_stays (world h));
         tablets_are = k.tablets_are ∙ sym same;
         owners_are = k.owners_are ∙ sym (ap owners_of same);
@@ -71,70 +73,89 @@ module _ (n : ℕ) (o : oracle.OracleState ConflictKey) (d : List PredDef) (ps :
   same_next : (event : Event) → next (h ++ (record { author = author; event = event }) ∷ []) ≡ next h → o.next ≡ next (and_entry h author event)
   same_next event e = k.next_is ∙ sym e
 
-  pub look_keeps : IsKept n o d ps w (and_entry h author Look)
+  pub look_keeps : IsKept n o uid d ps w (and_entry h author Look)
   look_keeps =
       let e : Entry = record { author = author; event = Look } in
-      still_keeps Look o (record { schema_stays = λ w. refl; places_stay = λ s. refl }) (record {
+      still_keeps Look o uid (record { schema_stays = λ w. refl; places_stay = λ s. refl }) (record {
         fits = tt;
         next_is = let p = next_push h e in omega (arith, k.next_is);
         active_are = rw active_push k.active_are;
         commits_are = rw commits_push (k.commits_are ∙ sym (append-nil (commits h)));
         line_is = k.line_is;
+        uid_moves = k.uid_is;
       })
 
   -- ---- a begin
 
-  pub begin_keeps : o.next < 2 ^ 62 → IsKept n (oracle.begun o) d ps w (and_entry h author (Begin o.next))
+  pub begin_keeps : o.next < 2 ^ 62 → IsKept n (oracle.begun o) uid d ps w (and_entry h author (Begin o.next))
   begin_keeps lt =
       let e : Entry = record { author = author; event = Begin o.next } in
-      still_keeps (Begin o.next) (oracle.begun o) (record { schema_stays = λ w. refl; places_stay = λ s. refl }) (record {
+      still_keeps (Begin o.next) (oracle.begun o) uid (record { schema_stays = λ w. refl; places_stay = λ s. refl }) (record {
         fits = (k.next_is, lt);
         next_is = let p = next_push h e in omega (arith, k.next_is);
         active_are = rw active_push (ap (λ (xs : List ℕ). xs ++ o.next ∷ []) k.active_are ∙ sym (map-append (λ (s : Started). s.start) (active h) ((record { start = o.next; author = author }) ∷ [])));
         commits_are = rw commits_push (k.commits_are ∙ sym (append-nil (commits h)));
         line_is = k.line_is;
+        uid_moves = k.uid_is;
       })
 
   -- ---- an end
 
-  pub end_keeps : (start : ℕ) → is_active_of (active h) start author ≡ true → IsKept n (oracle.ended o start) d ps w (and_entry h author (End start))
+  pub end_keeps : (start : ℕ) → is_active_of (active h) start author ≡ true → IsKept n (oracle.ended o start) uid d ps w (and_entry h author (End start))
   end_keeps start a =
       let e : Entry = record { author = author; event = End start } in
-      still_keeps (End start) (oracle.ended o start) (record { schema_stays = λ w. refl; places_stay = λ s. refl }) (record {
+      still_keeps (End start) (oracle.ended o start) uid (record { schema_stays = λ w. refl; places_stay = λ s. refl }) (record {
         fits = a;
         next_is = let p = next_push h e in omega (arith, k.next_is);
         active_are = rw active_push (ap (λ (xs : List ℕ). oracle.without xs start) k.active_are ∙ sym (starts_of_ended (active h) start));
         commits_are = rw commits_push (k.commits_are ∙ sym (append-nil (commits h)));
         line_is = k.line_is;
+        uid_moves = k.uid_is;
       })
 
-  pub absent_keeps : (start : ℕ) (o2 : oracle.OracleState ConflictKey) → o2 ≡ o → IsKept n o2 d ps w (and_entry h author Look)
-  absent_keeps start o2 same = subst (λ (x : oracle.OracleState ConflictKey). IsKept n x d ps w (and_entry h author Look)) (sym same) look_keeps
+  pub absent_keeps : (start : ℕ) (o2 : oracle.OracleState ConflictKey) → o2 ≡ o → IsKept n o2 uid d ps w (and_entry h author Look)
+  absent_keeps start o2 same = subst (λ (x : oracle.OracleState ConflictKey). IsKept n x uid d ps w (and_entry h author Look)) (sym same) look_keeps
 
   -- ---- a refused commit
 
-  pub refused_keeps : (start : ℕ) (reason : Reason) → is_active_of (active h) start author ≡ true → IsReason h start reason → IsKept n (oracle.ended o start) d ps w (and_entry h author (Refused start reason))
+  pub refused_keeps : (start : ℕ) (reason : Reason) → is_active_of (active h) start author ≡ true → IsReason h start reason → IsKept n (oracle.ended o start) uid d ps w (and_entry h author (Refused start reason))
   refused_keeps start reason a is =
       let e : Entry = record { author = author; event = Refused start reason } in
-      still_keeps (Refused start reason) (oracle.ended o start) (record { schema_stays = λ w. refl; places_stay = λ s. refl }) (record {
+      still_keeps (Refused start reason) (oracle.ended o start) uid (record { schema_stays = λ w. refl; places_stay = λ s. refl }) (record {
         fits = (a, is);
         next_is = let p = next_push h e in omega (arith, k.next_is);
         active_are = rw active_push (ap (λ (xs : List ℕ). oracle.without xs start) k.active_are ∙ sym (starts_of_ended (active h) start));
         commits_are = rw commits_push (k.commits_are ∙ sym (append-nil (commits h)));
         line_is = k.line_is;
+        uid_moves = k.uid_is;
       })
 
   -- ---- a commit
 
-  pub commit_keeps : (offer : Offer) → o.next < 2 ^ 62 → is_active_of (active h) offer.start author ≡ true → verdict h offer.start offer.preds offer.keys ≡ None → IsSound (schema_at h offer.start) (graph_at h offer.start []) offer.preds offer.keys offer.parts → IsKept n (oracle.committed o offer.start offer.keys) d ps w (and_entry h author (commit_of offer o.next))
+  pub commit_keeps : (offer : Offer) → o.next < 2 ^ 62 → is_active_of (active h) offer.start author ≡ true → verdict h offer.start offer.preds offer.keys ≡ None → IsSound (schema_at h offer.start) (graph_at h offer.start []) offer.preds offer.keys offer.parts → IsKept n (oracle.committed o offer.start offer.keys) uid d ps w (and_entry h author (commit_of offer o.next))
   commit_keeps offer lt a clear sound =
       let e : Entry = record { author = author; event = commit_of offer o.next } in
-      still_keeps (commit_of offer o.next) (oracle.committed o offer.start offer.keys) (record { schema_stays = λ w. refl; places_stay = λ s. refl }) (record {
+      still_keeps (commit_of offer o.next) (oracle.committed o offer.start offer.keys) uid (record { schema_stays = λ w. refl; places_stay = λ s. refl }) (record {
         fits = record { active = a; ts = k.next_is; drawn = lt; no_tablet = refl; clear = clear; sound = sound };
         next_is = let p = next_push h e in omega (arith, k.next_is);
         active_are = rw active_push (ap (λ (xs : List ℕ). oracle.without xs offer.start) k.active_are ∙ sym (starts_of_ended (active h) offer.start));
         commits_are = rw commits_push (ap (λ (cs : List (oracle.Commit ConflictKey)). cs ++ (record { ts = o.next; keys = offer.keys }) ∷ []) k.commits_are);
         line_is = k.line_is;
+        uid_moves = k.uid_is;
+      })
+
+  -- ---- a lease
+
+  pub lease_keeps : (top count first : ℕ) → FitsLease h top count first → IsKept n o (first + count) d ps w (and_entry h author (Lease top count first))
+  lease_keeps top count first fits =
+      let e : Entry = record { author = author; event = Lease top count first } in
+      still_keeps (Lease top count first) o (first + count) (record { schema_stays = λ w. refl; places_stay = λ s. refl }) (record {
+        fits = fits;
+        next_is = let p = next_push h e in omega (arith, k.next_is);
+        active_are = rw active_push k.active_are;
+        commits_are = rw commits_push (k.commits_are ∙ sym (append-nil (commits h)));
+        line_is = k.line_is;
+        uid_moves = refl;
       })
 
   -- ---- an alter
@@ -155,7 +176,7 @@ module _ (n : ℕ) (o : oracle.OracleState ConflictKey) (d : List PredDef) (ps :
   all_idle (t ∷ fresh) [] a = (refl, all_idle fresh [] tt)
   all_idle fresh (p ∷ ps) a = (a.0, all_idle fresh ps a.1)
 
-  pub alter_keeps : (newer : List PredDef) (parts : List Part) → author ≡ 0 → o.active ≡ [] → o.next + 1 < 2 ^ 62 → AreDistinct newer → KeepKinds h newer → AreAlterParts h newer parts → IsKept n (oracle.two_drawn o) (with_definitions d newer) (ps ++ map fresh_place (fresh n ps newer)) (owners_of (ps ++ map fresh_place (fresh n ps newer))) (and_entry h author (Alter o.next newer (record { ts = o.next + 1; fresh = fresh n ps newer; parts = parts })))
+  pub alter_keeps : (newer : List PredDef) (parts : List Part) → author ≡ 0 → o.active ≡ [] → o.next + 1 < 2 ^ 62 → AreDistinct newer → KeepKinds h newer → AreAlterParts h newer parts → IsKept n (oracle.two_drawn o) uid (with_definitions d newer) (ps ++ map fresh_place (fresh n ps newer)) (owners_of (ps ++ map fresh_place (fresh n ps newer))) (and_entry h author (Alter o.next newer (record { ts = o.next + 1; fresh = fresh n ps newer; parts = parts })))
   alter_keeps newer parts own idle lt distinct kinds are =
       let event : Event = Alter o.next newer (record { ts = o.next + 1; fresh = fresh n ps newer; parts = parts }) in
       let e : Entry = record { author = author; event = event } in
@@ -168,6 +189,7 @@ module _ (n : ℕ) (o : oracle.OracleState ConflictKey) (d : List PredDef) (ps :
         active_are = rw active_push k.active_are;
         commits_are = rw commits_push (k.commits_are ∙ sym (append-nil (commits h)));
         line_is = k.line_is;
+        uid_is = k.uid_is ∙ sym (next_uid_push h e);
         schema_is = ap (λ (s : List PredDef). with_definitions s newer) k.schema_is ∙ sym (schema_push h e);
         tablets_are = after;
         owners_are = ap owners_of after;

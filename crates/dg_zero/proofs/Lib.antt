@@ -7,6 +7,7 @@ pub mod NewDefinitions
 pub mod LawfulGraphs
 pub mod RecordsInTurn
 pub mod Kept
+pub mod Leases
 pub mod Refusals
 pub mod Committing
 pub mod NewTablets

@@ -182,7 +182,7 @@ leads_push graph p h e = list_any-append (λ (e : Entry). leads_to_object graph 
     or_false true = refl
     or_false false = refl
 
-module _ (n : ℕ) (o : oracle.OracleState ConflictKey) (d : List PredDef) (ps : List Place) (w : List Tablet) (h : List Entry) (now : Zero) (view : h ≡ now.history) (k : IsKept n o d ps w h) (at : ℕ) (at_is : at ≡ o.next) where
+module _ (n : ℕ) (o : oracle.OracleState ConflictKey) (uid : ℕ) (d : List PredDef) (ps : List Place) (w : List Tablet) (h : List Entry) (now : Zero) (view : h ≡ now.history) (k : IsKept n o uid d ps w h) (at : ℕ) (at_is : at ≡ o.next) where
   present : world_at h at ≡ world h
   present = present_is_last n h at k.legal (omega (arith, k.next_is, at_is))
 

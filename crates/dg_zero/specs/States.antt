@@ -23,7 +23,7 @@ use Rattle.dg_zero.specs.declared.fault.ZeroFault.TheVariants as faults
 use Rattle.dg_zero.specs.declared.offer.Offer.{Offer}
 use Rattle.dg_zero.specs.declared.place.Phase.TheVariants.{Idle}
 use Rattle.dg_zero.specs.declared.place.Place.{Place}
-use Rattle.dg_zero.specs.Counters.{next, active, starts_of}
+use Rattle.dg_zero.specs.Counters.{next, next_uid, active, starts_of}
 use Rattle.dg_zero.specs.Worlds.{world, schema}
 use Rattle.dg_zero.specs.Listings.{AreGainsAndLosses}
 use Rattle.dg_zero.specs.Places.{tablets, fresh, is_held}
@@ -48,14 +48,15 @@ owners_of places = ascending tablet_cmp (map tablet_of places)
 abbrev pub owners : List Entry → List Tablet
 owners history = owners_of (tablets history)
 
--- what a state keeps: its history is legal, and the oracle, the schema, the tablets and the owners are where it leads; nothing is moved, and the line isn't advanced yet
-pub record IsKept (groups : ℕ) (oracle : OracleState ConflictKey) (declared : List PredDef) (places : List Place) (owned : List Tablet) (history : List Entry) : Type 0 where
+-- what a state keeps: its history is legal, and the oracle, the next node, the schema, the tablets and the owners are where it leads; nothing is moved, and the line isn't advanced yet
+pub record IsKept (groups : ℕ) (oracle : OracleState ConflictKey) (uid : ℕ) (declared : List PredDef) (places : List Place) (owned : List Tablet) (history : List Entry) : Type 0 where
   pub least : 1 ≤ groups
   pub legal : IsLegal groups history
   pub next_is : oracle.next ≡ next history
   pub active_are : oracle.active ≡ starts_of (active history)
   pub commits_are : oracle.commits ≡ verdicts.commits history
   pub line_is : oracle.line ≡ 0
+  pub uid_is : uid ≡ next_uid history
   pub schema_is : declared ≡ schema history
   pub tablets_are : places ≡ tablets history
   pub owners_are : owned ≡ owners history

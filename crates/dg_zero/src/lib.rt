@@ -11,6 +11,7 @@ mod entry;
 mod fault;
 mod fresh;
 mod laws;
+mod lease;
 mod offer;
 mod owners;
 mod past;
@@ -30,5 +31,7 @@ pub use place::Phase;
 pub use seen::Seen;
 pub use zero::{Begun, ZeroState};
 
+#[cfg(test)]
+mod lease_tests;
 #[cfg(test)]
 mod tests;

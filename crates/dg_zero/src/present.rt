@@ -13,7 +13,6 @@ ghost use Rattle.dg_zero.specs.Worlds.{world, schema};
 
 use crate::past::Past;
 use crate::{Event, Seen, ZeroState};
-use dg_graph::Snapshot;
 use dg_keys::{Key, Part};
 use dg_schema::Schema;
 use dg_values::{Mem, OutOfMemory};
@@ -136,6 +135,6 @@ fn is_among(numbers: &[u64], n: u64) -> bool
 fn has_some(alloc: Global, seen: &Seen, p: &str, s: u64) -> Mem<bool>
     ensures { IfOk result (λ has. has ≡ has_object seen.now.graph p.now s) }
 {
-    let objects = seen.objects(alloc, p, s)?;
+    let objects = seen.objects_of(alloc, p, s)?;
     Ok(!objects.is_empty())
 }

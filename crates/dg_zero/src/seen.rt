@@ -2,6 +2,7 @@
 ghost use Rattle.std.specs.Prelude.{◌≡◌, ◌∷◌, ◌++◌, [], if◌then◌else◌, IfOk, OnOk, OnErr, fold, map};
 ghost use Rattle.dg_values.specs.Ascending.{with_one};
 ghost use Rattle.dg_values.specs.Order.{posting_cmp};
+ghost use Rattle.dg_graph.specs.Graphs.{objects};
 ghost use Rattle.dg_zero.specs.Pasts.{entries};
 ghost use Rattle.dg_zero.specs.Worlds.{world_at, schema_at};
 ghost use Rattle.dg_zero.specs.Seen.{is_upto, where_upto, events_upto, world_of, none_standing, is_data_of, is_single_after, standing_after_op, standing_after_part, standing_after};
@@ -13,9 +14,10 @@ use dg_graph::Snapshot;
 use dg_keys::{Key, Part};
 use dg_schema::Schema;
 use dg_sets::{put, take_out};
-use dg_values::{Mem, OutOfMemory, Posting};
+use dg_values::{Mem, OutOfMemory, Posting, Steps};
 use std::alloc::Global;
 use std::marker::Model;
+use std::sync::ledger::Ledger;
 
 /// The graph at a timestamp under the schema there, which is read out of the history list by list. Contracts see the
 /// schema and the graph.
@@ -222,6 +224,15 @@ pub fn objects_after(alloc: Global, events: &[&Event], p: &str, s: u64) -> Mem<V
     Ok(subject.objects)
 }
 
+impl<'a> Seen<'a> {
+    // The objects of a subject, in ascending order. No read is counted.
+    pub(crate) fn objects_of(&self, alloc: Global, p: &str, s: u64) -> Mem<Vec<Posting>>
+        ensures { IfOk result (λ v. v.items ≡ objects self.now.graph p.now s) }
+    {
+        objects_after(alloc, self.events.as_slice(), p, s)
+    }
+}
+
 impl<'a> Snapshot for Seen<'a> {
     ghost graph = { λ s. s.graph };
 
@@ -231,8 +242,15 @@ impl<'a> Snapshot for Seen<'a> {
         self.schema
     }
 
-    fn objects(&self, alloc: Global, p: &str, s: u64) -> Mem<Vec<Posting>> {
-        objects_after(alloc, self.events.as_slice(), p, s)
+    fn objects<L: Ledger>(
+        &self,
+        alloc: Global,
+        p: &str,
+        s: u64,
+        reads: &mut Steps<L>,
+    ) -> Mem<Vec<Posting>> {
+        reads.tick();
+        self.objects_of(alloc, p, s)
     }
 }
 

@@ -1,4 +1,4 @@
-ghost use Rattle.std.specs.Prelude.{◌≡◌, ◌≢◌, [], true, IfOk, OnOk};
+ghost use Rattle.std.specs.Prelude.{◌≡◌, ◌≢◌, ◌<◌, [], true, IfOk, OnOk};
 ghost use Rattle.dg_values.specs.Ascending.{Ascends};
 ghost use Rattle.dg_keys.specs.Conflicts.{conflict_cmp};
 ghost use Rattle.dg_zero.specs.declared.entry.Event.{Event};
@@ -8,14 +8,16 @@ ghost use Rattle.dg_zero.specs.States.{and_then};
 ghost use Rattle.dg_zero.specs.Worlds.{world, empty_world};
 
 use crate::seen::objects_after;
-use crate::{CommitFault, Event, Offer, Phase, Slip, ZeroState};
+use crate::{CommitFault, Event, Offer, Phase, Seen, Slip, ZeroState};
 use dg_delta::Op;
 use dg_graph::Snapshot;
 use dg_keys::{ConflictKey, Key, Part, Record};
 use dg_oracle::Verdict;
 use dg_schema::{PredDef, Schema};
-use dg_values::{Kind, List, Mem, OutOfMemory, Posting, Str, Value};
+use dg_values::{Kind, List, Mem, OutOfMemory, Posting, Steps, Str, Value};
 use std::alloc::Global;
+use std::marker::Brand;
+use std::sync::ledger::{Blank, Ledger};
 use std::test::Fail;
 
 fn schema_of(alloc: Global, list: bool) -> Mem<Schema> {
@@ -161,6 +163,21 @@ fn an_end_of_no_start(rt: HostRuntime) -> Result<(), Fail> {
     Ok(())
 }
 
+// How many names node 1 has, where reads are counted.
+fn count_names<L: Ledger>(alloc: Global, seen: &Seen, blank: Blank) -> Mem<usize>
+    requires name { blank.name ≡ L.name }
+    requires parts { blank.parts ≡ L.parts }
+    requires some { 0 < blank.parts }
+{
+    let mut reads = Steps::<L>::new(blank);
+    Ok(seen.objects(alloc, "name", 1, &mut reads)?.len())
+}
+
+// How many names node 1 has.
+fn names_of(alloc: Global, seen: &Seen) -> Mem<usize> {
+    count_names::<Brand>(alloc, seen, Blank::new(1))
+}
+
 // A start, and how many names node 1 has there.
 fn names_at_start(alloc: Global, zero: &mut ZeroState, author: u32) -> Result<(u64, usize), Fail>
     ensures begun { IfOk result (λ r. zero.new ≡ and_then zero.old author (Event.Begin r.0)) }
@@ -170,8 +187,7 @@ fn names_at_start(alloc: Global, zero: &mut ZeroState, author: u32) -> Result<(u
     match zero.begin(slip) {
         Ok(begun) => {
             let seen = zero.seen_at(alloc, &begun.schema, begun.start)?;
-            let names = seen.objects(alloc, "name", 1)?;
-            Ok((begun.start, names.len()))
+            Ok((begun.start, names_of(alloc, &seen)?))
         }
         Err(_) => Err("no start")?,
     }
@@ -183,8 +199,7 @@ fn nothing_is_seen_of_nothing(rt: HostRuntime) -> Result<(), Fail> {
     let zero = ZeroState::new(alloc, 2)?;
     let none = Schema::new(alloc);
     let seen = zero.seen_at(alloc, &none, 9)?;
-    let names = seen.objects(alloc, "name", 1)?.len();
-    assert_eq!(rt; names, 0);
+    assert_eq!(rt; names_of(alloc, &seen)?, 0);
     Ok(())
 }
 

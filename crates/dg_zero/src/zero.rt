@@ -24,12 +24,13 @@ use std::sync::Arc;
 /// All that happened, and where it leads. Contracts see the number of groups and the history, which is legal.
 ///
 /// The history stands in memory whole. Beside it stand the next timestamp, the active starts and the keys of commits
-/// (in the oracle), the present schema and owners, which a begin shares, and the tablets.
+/// (in the oracle), the next node, the present schema and owners, which a begin shares, and the tablets.
 #[derive(Drop)]
 pub struct ZeroState {
     pub(crate) alloc: Global,
     pub(crate) groups: u32,
     pub(crate) oracle: Oracle<ConflictKey>,
+    pub(crate) next_uid: u64,
     pub(crate) schema: Arc<Schema>,
     pub(crate) tablets: Vec<Place>,
     pub(crate) owners: Arc<Owners>,
@@ -45,7 +46,7 @@ impl Model for ZeroState {
 
     ghost view = { λ z. record { groups = z.groups; history = entries z.past } };
 
-    ghost invariant = { λ z. IsKept z.groups z.oracle (arc_value z.schema) z.tablets.items (arc_value z.owners) (entries z.past) };
+    ghost invariant = { λ z. IsKept z.groups z.oracle z.next_uid (arc_value z.schema) z.tablets.items (arc_value z.owners) (entries z.past) };
 }
 
 impl Logged for ZeroState {
@@ -75,6 +76,7 @@ impl ZeroState {
             alloc,
             groups,
             oracle: Oracle::starting_at(alloc, 1)?,
+            next_uid: 1,
             schema: Arc::new(alloc, Schema::new(alloc))?,
             tablets: Vec::new(alloc),
             owners: Arc::new(alloc, Owners::none(alloc))?,

@@ -19,4 +19,4 @@ where_none (Some n) P f = tt
 pub returns-clause-none : goal.returns-clause-none
 returns-clause-none c =
     where_none c.first_active.result _ (λ none.
-    ap (λ (z : Zero). active z.history) (sym c.self.view_is) ∙ none_active c.self.inside.groups c.self.inside.oracle (arc_value c.self.inside.schema) c.self.inside.tablets.items (arc_value c.self.inside.owners) (entries c.self.inside.past) 0 c.self.invariant (no_first c.self.inside.oracle.active (none ∙ c.first_active.ensures.first)))
+    ap (λ (z : Zero). active z.history) (sym c.self.view_is) ∙ none_active c.self.inside.groups c.self.inside.oracle c.self.inside.next_uid (arc_value c.self.inside.schema) c.self.inside.tablets.items (arc_value c.self.inside.owners) (entries c.self.inside.past) 0 c.self.invariant (no_first c.self.inside.oracle.active (none ∙ c.first_active.ensures.first)))

@@ -14,4 +14,4 @@ returns-in-Some-clause-fault c =
 pub returns-clause-none_active : goal.returns-clause-none_active
 returns-clause-none_active c =
     let none : None ≡ c.first_active.result = search rules in
-    ap (λ (z : Zero). active z.history) (sym c.self.view_is) ∙ none_active c.self.inside.groups c.self.inside.oracle (arc_value c.self.inside.schema) c.self.inside.tablets.items (arc_value c.self.inside.owners) (entries c.self.inside.past) 0 c.self.invariant (no_first c.self.inside.oracle.active (none ∙ c.first_active.ensures.first))
+    ap (λ (z : Zero). active z.history) (sym c.self.view_is) ∙ none_active c.self.inside.groups c.self.inside.oracle c.self.inside.next_uid (arc_value c.self.inside.schema) c.self.inside.tablets.items (arc_value c.self.inside.owners) (entries c.self.inside.past) 0 c.self.invariant (no_first c.self.inside.oracle.active (none ∙ c.first_active.ensures.first))

@@ -19,12 +19,12 @@ swap_remove-requires c =
     omega (arith, c.args.copied.ok)
 
 pub invariant_of-self : goal.invariant_of-self
-invariant_of-self c = rw c.end.ensures.ended (refused c.self.inside.groups c.self.inside.oracle (arc_value c.self.inside.schema) c.self.inside.tablets.items (arc_value c.self.inside.owners) (entries c.self.inside.past) c.args.self.now.history (ap (λ (z : Zero). z.history) c.self.view_is) c.args.slip c.args.offer c.self.invariant c.requires.active c.args.at c.args.ts c.swap_remove-key.result c.swap_remove.result _ c.requires.judged (c.swap_remove-key.ensures.value ∙ ap (λ (ks : List ConflictKey). get_or ks c.args.at c.swap_remove-key.result) c.into_vec-keys.ensures) (c.swap_remove.ensures.value ∙ ap (λ (ks : List ConflictKey). get_or ks c.args.at c.swap_remove.result) c.requires.copied) c.append.ensures).0
+invariant_of-self c = rw c.end.ensures.ended (refused c.self.inside.groups c.self.inside.oracle c.self.inside.next_uid (arc_value c.self.inside.schema) c.self.inside.tablets.items (arc_value c.self.inside.owners) (entries c.self.inside.past) c.args.self.now.history (ap (λ (z : Zero). z.history) c.self.view_is) c.args.slip c.args.offer c.self.invariant c.requires.active c.args.at c.args.ts c.swap_remove-key.result c.swap_remove.result _ c.requires.judged (c.swap_remove-key.ensures.value ∙ ap (λ (ks : List ConflictKey). get_or ks c.args.at c.swap_remove-key.result) c.into_vec-keys.ensures) (c.swap_remove.ensures.value ∙ ap (λ (ks : List ConflictKey). get_or ks c.args.at c.swap_remove.result) c.requires.copied) c.append.ensures).0
 
 pub returns-clause-fault : goal.returns-clause-fault
 returns-clause-fault c =
-    let all = refused c.self.inside.groups c.self.inside.oracle (arc_value c.self.inside.schema) c.self.inside.tablets.items (arc_value c.self.inside.owners) (entries c.self.inside.past) c.args.self.now.history (ap (λ (z : Zero). z.history) c.self.view_is) c.args.slip c.args.offer c.self.invariant c.requires.active c.args.at c.args.ts c.swap_remove-key.result c.swap_remove.result _ c.requires.judged (c.swap_remove-key.ensures.value ∙ ap (λ (ks : List ConflictKey). get_or ks c.args.at c.swap_remove-key.result) c.into_vec-keys.ensures) (c.swap_remove.ensures.value ∙ ap (λ (ks : List ConflictKey). get_or ks c.args.at c.swap_remove.result) c.requires.copied) c.append.ensures in
+    let all = refused c.self.inside.groups c.self.inside.oracle c.self.inside.next_uid (arc_value c.self.inside.schema) c.self.inside.tablets.items (arc_value c.self.inside.owners) (entries c.self.inside.past) c.args.self.now.history (ap (λ (z : Zero). z.history) c.self.view_is) c.args.slip c.args.offer c.self.invariant c.requires.active c.args.at c.args.ts c.swap_remove-key.result c.swap_remove.result _ c.requires.judged (c.swap_remove-key.ensures.value ∙ ap (λ (ks : List ConflictKey). get_or ks c.args.at c.swap_remove-key.result) c.into_vec-keys.ensures) (c.swap_remove.ensures.value ∙ ap (λ (ks : List ConflictKey). get_or ks c.args.at c.swap_remove.result) c.requires.copied) c.append.ensures in
     (all.1, λ i. record { groups = (c.self.view_is i).groups; history = all.2 i })
 
 pub returns-clause-legal : goal.returns-clause-legal
-returns-clause-legal c = (refused c.self.inside.groups c.self.inside.oracle (arc_value c.self.inside.schema) c.self.inside.tablets.items (arc_value c.self.inside.owners) (entries c.self.inside.past) c.args.self.now.history (ap (λ (z : Zero). z.history) c.self.view_is) c.args.slip c.args.offer c.self.invariant c.requires.active c.args.at c.args.ts c.swap_remove-key.result c.swap_remove.result _ c.requires.judged (c.swap_remove-key.ensures.value ∙ ap (λ (ks : List ConflictKey). get_or ks c.args.at c.swap_remove-key.result) c.into_vec-keys.ensures) (c.swap_remove.ensures.value ∙ ap (λ (ks : List ConflictKey). get_or ks c.args.at c.swap_remove.result) c.requires.copied) c.append.ensures).0.legal
+returns-clause-legal c = (refused c.self.inside.groups c.self.inside.oracle c.self.inside.next_uid (arc_value c.self.inside.schema) c.self.inside.tablets.items (arc_value c.self.inside.owners) (entries c.self.inside.past) c.args.self.now.history (ap (λ (z : Zero). z.history) c.self.view_is) c.args.slip c.args.offer c.self.invariant c.requires.active c.args.at c.args.ts c.swap_remove-key.result c.swap_remove.result _ c.requires.judged (c.swap_remove-key.ensures.value ∙ ap (λ (ks : List ConflictKey). get_or ks c.args.at c.swap_remove-key.result) c.into_vec-keys.ensures) (c.swap_remove.ensures.value ∙ ap (λ (ks : List ConflictKey). get_or ks c.args.at c.swap_remove.result) c.requires.copied) c.append.ensures).0.legal

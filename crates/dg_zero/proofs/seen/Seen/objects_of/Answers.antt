@@ -5,7 +5,7 @@ use Rattle.dg_graph.specs.Graphs.{objects}
 use Rattle.dg_zero.specs.Worlds.{World}
 use Rattle.dg_zero.specs.Seen.{none_standing, standing_after}
 use Rattle.dg_zero.proofs.SeenObjects.{objects_of_events}
-use Rattle.dg_zero.proofs.seen.SeenSnapshot.objects.Goals as goal
+use Rattle.dg_zero.proofs.seen.Seen.objects_of.Goals as goal
 
 pub returns : goal.returns
 returns c =
