@@ -8,3 +8,6 @@ pub mod SoundParts
 pub mod CommitsSince
 pub mod BetweenLaws
 pub mod ListLaws
+pub mod ExpandLaws
+pub mod NameLaws
+pub mod ResolveLaws

@@ -73,7 +73,7 @@ keys_lead schema graph goal [] l m = tt
 keys_lead schema graph goal (k ∷ ks) l m = (key_leads schema graph goal k l m, keys_lead schema graph goal ks l m)
 
 -- the graph after changes is lawful
-all_fit : (schema : List PredDef) (cs : List Change) → AreFitting schema cs → AllFit schema cs
+pub all_fit : (schema : List PredDef) (cs : List Change) → AreFitting schema cs → AllFit schema cs
 all_fit schema [] f = tt
 all_fit schema (changes.Set t ∷ cs) f = (f.0, all_fit schema cs f.1)
 all_fit schema (changes.Del t ∷ cs) f = (tt, all_fit schema cs f.1)

@@ -1,5 +1,5 @@
--- What holds of the parts and keys of changes.
-use Rattle.std.specs.Prelude.{◌≡◌, ◌≢◌, ℕ, true, false, List, [], None, fold}
+-- What holds of mutations, and of the parts and keys of changes.
+use Rattle.std.specs.Prelude.{◌≡◌, ◌≢◌, ℕ, true, false, List, [], None, fold, Result, Ok}
 use Rattle.std.specs.List.{AllByRecursion}
 use Rattle.dg_values.specs.Ascending.{ascending, has}
 use Rattle.dg_schema.specs.declared.definition.PredDef.{PredDef}
@@ -17,6 +17,11 @@ use Rattle.dg_zero.specs.Counters.{active, is_active_of}
 use Rattle.dg_zero.specs.Verdicts.{verdict}
 use Rattle.dg_zero.specs.Legal.{IsLegal}
 use Rattle.dg_zero.specs.Offers.{IsSound}
+use Rattle.dg_nquad.specs.declared.mutation.Statement.{Statement}
+use Rattle.dg_edges.specs.declared.edge.Edge.{Edge}
+use Rattle.dg_edges.specs.declared.fault.EdgeFault.{EdgeFault}
+use Rattle.dg_edges.specs.Resolving.{Resolves}
+use Rattle.dg_edges.specs.Expanding.{expanded}
 use Rattle.dg_edges.specs.Deltas.{deltas, data_conflict, data_conflicts, preds_of, IsPlain, AreFitting}
 
 -- the parts of changes are exactly what lists gain and lose by them
@@ -85,3 +90,11 @@ HistoriesKeepParts = (n : ℕ) (history : List Entry) (author start : ℕ) (pred
 -- what a sound offer's data parts put in fits the schema, whatever its other keys; so they keep a later graph lawful
 abbrev pub SoundFits : Type 0
 SoundFits = (schema : List PredDef) (graph : List Triple) (preds : List (List ℕ)) (keys : List ConflictKey) (parts : List Part) → IsSound schema graph preds keys parts → AllFit schema (changes_of parts)
+
+-- a mutation is resolved in one way
+abbrev pub ResolvesOnce : Type 0
+ResolvesOnce = (schema : List PredDef) (statements : List Statement) (one other : Result (List Edge) EdgeFault) → Resolves schema statements one → Resolves schema statements other → one ≡ other
+
+-- the changes of a checked mutation fit the schema, over a lawful graph
+abbrev pub ExpandedFits : Type 0
+ExpandedFits = (schema : List PredDef) (graph : List Triple) (statements : List Statement) (edges : List Edge) (first : ℕ) → Resolves schema statements (Ok edges) → IsLawful schema graph → AreFitting schema (expanded graph edges first)

@@ -9,9 +9,10 @@ ghost use Rattle.dg_edges.specs.Deltas.{data_conflict, data_conflicts, IsPlain, 
 use dg_graph::{Change, Snapshot, Triple, is_single};
 use dg_keys::ConflictKey;
 use dg_schema::Schema;
-use dg_sets::put;
-use dg_values::{Mem, OutOfMemory, Str};
+use dg_sets::{in_order, put};
+use dg_values::{Mem, OutOfMemory, Steps, Str};
 use std::alloc::Global;
+use std::sync::ledger::Ledger;
 
 // The key by which changes of a triple conflict.
 fn conflict_of(alloc: Global, schema: &Schema, t: &Triple) -> Mem<ConflictKey>
@@ -29,18 +30,19 @@ fn conflict_of(alloc: Global, schema: &Schema, t: &Triple) -> Mem<ConflictKey>
 fn conflicts_of(alloc: Global, schema: &Schema, changes: &[Change]) -> Mem<Vec<ConflictKey>>
     ensures { IfOk result (λ v. v.items ≡ ascending conflict_cmp (data_conflicts schema.now changes.now)) }
 {
-    let mut found = Vec::new(alloc);
+    let mut keys = Vec::with_capacity(alloc, changes.len())?;
     for change in changes {
-        put(&mut found, conflict_of(alloc, schema, change.triple())?)?;
+        keys.push(conflict_of(alloc, schema, change.triple())?)?;
     }
-    Ok(found)
+    Ok(in_order(keys))
 }
 
 /// The keys by which changes conflict, ascending and each once. The error is want of memory.
-pub fn conflict_keys<S: Snapshot>(
+pub fn conflict_keys<S: Snapshot, L: Ledger>(
     alloc: Global,
     snap: &S,
     changes: &[Change],
+    _reads: &mut Steps<L>,
 ) -> Mem<Vec<ConflictKey>>
     requires plain { IsPlain (S.declared snap.now) }
     requires fitting { AreFitting (S.declared snap.now) changes.now }

@@ -14,8 +14,9 @@ use crate::lists::{Objects, keys_of, lists_of};
 use dg_delta::Op;
 use dg_graph::{Change, Snapshot};
 use dg_keys::{Key, Part};
-use dg_values::{List, Mem, OutOfMemory};
+use dg_values::{List, Mem, OutOfMemory, Steps};
 use std::alloc::Global;
+use std::sync::ledger::Ledger;
 
 // Adds a part, where there are operations.
 fn add_part(alloc: Global, parts: &mut Vec<Part>, key: &Key, ops: Vec<Op>) -> Mem<()>
@@ -53,7 +54,12 @@ fn parts_of(alloc: Global, keys: &[Key], lists: &[Objects]) -> Mem<Vec<Part>>
 
 /// Per key whose list changes, in ascending order, what the list gains and loses by changes. The error is want of
 /// memory. It reads the objects of each subject that is changed once.
-pub fn deltas_of<S: Snapshot>(alloc: Global, snap: &S, changes: &[Change]) -> Mem<Vec<Part>>
+pub fn deltas_of<S: Snapshot, L: Ledger>(
+    alloc: Global,
+    snap: &S,
+    changes: &[Change],
+    reads: &mut Steps<L>,
+) -> Mem<Vec<Part>>
     requires plain { IsPlain (S.declared snap.now) }
     requires fitting { AreFitting (S.declared snap.now) changes.now }
     requires lawful { IsLawful (S.declared snap.now) (S.graph snap.now) }
@@ -61,6 +67,6 @@ pub fn deltas_of<S: Snapshot>(alloc: Global, snap: &S, changes: &[Change]) -> Me
     ensures exact { IfOk result (λ v. AreGainsAndLosses (S.declared snap.now) (S.graph snap.now) (S.declared snap.now) (after_changes (S.declared snap.now) (S.graph snap.now) changes.now) v.items) }
 {
     let keys = keys_of(alloc, changes)?;
-    let lists = lists_of(alloc, snap, keys.as_slice(), changes)?;
+    let lists = lists_of(alloc, snap, keys.as_slice(), changes, reads)?;
     parts_of(alloc, keys.as_slice(), lists.as_slice())
 }

@@ -1,19 +1,33 @@
-//! The making of offers: what changes make of posting lists, and the keys by which they conflict.
+//! Mutations checked against a schema and made into changes, and the making of offers: what changes make of posting
+//! lists, and the keys by which they conflict.
 #![tactic(auto)]
 
 mod between;
 mod conflicts;
 mod deltas;
+mod edge;
+mod expanding;
+mod fault;
 mod laws;
 mod lists;
+mod names;
 mod offer;
 mod plain;
+mod resolving;
 
 pub use conflicts::{conflict_keys, preds_of};
 pub use deltas::deltas_of;
-pub use laws::{changes_as_parts, commits_as_changes, offers};
+pub use edge::{Edge, Named, Resolved, Target};
+pub use expanding::expand;
+pub use fault::EdgeFault;
+pub use laws::{changes_as_parts, commits_as_changes, mutations, offers};
 pub use offer::offer_of;
 pub use plain::{are_fitting, is_plain};
+pub use resolving::resolve;
 
+#[cfg(test)]
+mod expand_tests;
+#[cfg(test)]
+mod resolve_tests;
 #[cfg(test)]
 mod tests;

@@ -11,10 +11,11 @@ ghost use Rattle.dg_edges.specs.Lists.{Lists, objects_at, unchanged_at, changed_
 use dg_graph::{Change, Snapshot, change_objects};
 use dg_keys::Key;
 use dg_schema::Schema;
-use dg_sets::{place_of, put};
-use dg_values::{Mem, OutOfMemory, Posting};
+use dg_sets::{in_order, place_of};
+use dg_values::{Mem, OutOfMemory, Posting, Steps};
 use std::alloc::Global;
 use std::marker::Model;
+use std::sync::ledger::Ledger;
 
 // The objects of a subject, before changes and after some.
 #[derive(Drop)]
@@ -68,11 +69,11 @@ fn key_of(alloc: Global, change: &Change) -> Mem<Key>
 pub fn keys_of(alloc: Global, changes: &[Change]) -> Mem<Vec<Key>>
     ensures { IfOk result (λ v. v.items ≡ data_keys changes.now) }
 {
-    let mut found = Vec::new(alloc);
+    let mut keys = Vec::with_capacity(alloc, changes.len())?;
     for change in changes {
-        put(&mut found, key_of(alloc, change)?)?;
+        keys.push(key_of(alloc, change)?)?;
     }
-    Ok(found)
+    Ok(in_order(keys))
 }
 
 // Equal postings.
@@ -87,33 +88,48 @@ fn copies(alloc: Global, postings: &[Posting]) -> Mem<Vec<Posting>>
 }
 
 // The objects at a key.
-fn objects_at<S: Snapshot>(alloc: Global, snap: &S, key: &Key) -> Mem<Vec<Posting>>
+fn objects_at<S: Snapshot, L: Ledger>(
+    alloc: Global,
+    snap: &S,
+    key: &Key,
+    reads: &mut Steps<L>,
+) -> Mem<Vec<Posting>>
     ensures { IfOk result (λ v. v.items ≡ objects_at (S.graph snap.now) key.now) }
 {
     match key {
-        Key::Data { p, s } => snap.objects(alloc, p.as_str(), *s),
+        Key::Data { p, s } => snap.objects(alloc, p.as_str(), *s, reads),
         _ => Ok(Vec::new(alloc)),
     }
 }
 
 // The objects at a key, before changes and after none.
-fn unchanged<S: Snapshot>(alloc: Global, snap: &S, key: &Key) -> Mem<Objects>
+fn unchanged<S: Snapshot, L: Ledger>(
+    alloc: Global,
+    snap: &S,
+    key: &Key,
+    reads: &mut Steps<L>,
+) -> Mem<Objects>
     requires ascend { Ascends triple_cmp (S.graph snap.now) }
     ensures { IfOk result (λ o. o ≡ unchanged_at (S.graph snap.now) key.now) }
 {
-    let before = objects_at(alloc, snap, key)?;
+    let before = objects_at(alloc, snap, key, reads)?;
     let after = copies(alloc, before.as_slice())?;
     Ok(Objects { before, after })
 }
 
 // The objects at some keys, before changes and after none.
-fn all_unchanged<S: Snapshot>(alloc: Global, snap: &S, keys: &[Key]) -> Mem<Vec<Objects>>
+fn all_unchanged<S: Snapshot, L: Ledger>(
+    alloc: Global,
+    snap: &S,
+    keys: &[Key],
+    reads: &mut Steps<L>,
+) -> Mem<Vec<Objects>>
     requires ascend { Ascends triple_cmp (S.graph snap.now) }
     ensures { IfOk result (λ v. v.items ≡ map (unchanged_at (S.graph snap.now)) keys.now) }
 {
     let mut lists = Vec::with_capacity(alloc, keys.len())?;
     for key in keys {
-        lists.push(unchanged(alloc, snap, key)?)?;
+        lists.push(unchanged(alloc, snap, key, reads)?)?;
     }
     Ok(lists)
 }
@@ -156,17 +172,18 @@ fn change_at(
 }
 
 // The objects at some keys, before and after changes.
-pub fn lists_of<S: Snapshot>(
+pub fn lists_of<S: Snapshot, L: Ledger>(
     alloc: Global,
     snap: &S,
     keys: &[Key],
     changes: &[Change],
+    reads: &mut Steps<L>,
 ) -> Mem<Vec<Objects>>
     requires graph { Ascends triple_cmp (S.graph snap.now) }
     requires ascend { Ascends key_cmp keys.now }
     ensures { IfOk result (λ v. v.items ≡ map (lists_after (S.declared snap.now) (S.graph snap.now) changes.now) keys.now) }
 {
-    let mut lists = all_unchanged(alloc, snap, keys)?;
+    let mut lists = all_unchanged(alloc, snap, keys, reads)?;
     for change in changes {
         change_at(alloc, snap.schema(), keys, &mut lists, change)?;
     }

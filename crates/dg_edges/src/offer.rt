@@ -7,13 +7,20 @@ ghost use Rattle.dg_edges.specs.Deltas.{deltas, preds_of, IsPlain, AreFitting};
 
 use crate::{conflict_keys, deltas_of, preds_of};
 use dg_graph::{Change, Snapshot};
-use dg_values::{List, Mem, OutOfMemory};
+use dg_values::{List, Mem, OutOfMemory, Steps};
 use dg_zero::Offer;
 use std::alloc::Global;
+use std::sync::ledger::Ledger;
 
 /// The offer to commit changes of a transaction with this start, which saw the graph of the snapshot there. It is
 /// sound where there is a change. The changes are copied. The error is want of memory.
-pub fn offer_of<S: Snapshot>(alloc: Global, snap: &S, start: u64, changes: &[Change]) -> Mem<Offer>
+pub fn offer_of<S: Snapshot, L: Ledger>(
+    alloc: Global,
+    snap: &S,
+    start: u64,
+    changes: &[Change],
+    reads: &mut Steps<L>,
+) -> Mem<Offer>
     requires plain { IsPlain (S.declared snap.now) }
     requires fitting { AreFitting (S.declared snap.now) changes.now }
     requires lawful { IsLawful (S.declared snap.now) (S.graph snap.now) }
@@ -26,8 +33,8 @@ pub fn offer_of<S: Snapshot>(alloc: Global, snap: &S, start: u64, changes: &[Cha
 {
     let asked = List::from_vec(copies(alloc, changes)?);
     let preds = List::from_vec(preds_of(alloc, changes)?);
-    let keys = List::from_vec(conflict_keys(alloc, snap, changes)?);
-    let parts = List::from_vec(deltas_of(alloc, snap, changes)?);
+    let keys = List::from_vec(conflict_keys(alloc, snap, changes, reads)?);
+    let parts = List::from_vec(deltas_of(alloc, snap, changes, reads)?);
     Ok(Offer {
         start,
         preds,

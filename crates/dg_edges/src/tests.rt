@@ -1,40 +1,22 @@
 // Offers of changes of small graphs.
-ghost use Rattle.std.specs.Prelude.{◌≡◌, IfOk};
+ghost use Rattle.std.specs.Prelude.{◌≡◌, ◌<◌, IfOk};
 ghost use Rattle.dg_graph.specs.Graphs.{IsLawful};
-ghost use Rattle.dg_edges.specs.Deltas.{AreFitting};
+ghost use Rattle.dg_edges.specs.Deltas.{IsPlain, AreFitting};
 
 use crate::{
     are_fitting, changes_as_parts, commits_as_changes, conflict_keys, deltas_of, is_plain,
     offer_of, offers, preds_of,
 };
 use dg_delta::Op;
-use dg_graph::{Change, Graph, Snapshot, Triple};
+use dg_graph::{Change, Graph, Plain, Triple};
 use dg_keys::{ConflictKey, Key, Part, conflict_text};
 use dg_schema::{PredDef, Schema};
-use dg_values::{Kind, List, Mem, OutOfMemory, Posting, Str, Value};
+use dg_values::{Kind, List, Mem, OutOfMemory, Posting, Steps, Str, Value};
+use dg_zero::Offer;
 use std::alloc::Global;
+use std::marker::Brand;
+use std::sync::ledger::{Blank, Ledger};
 use std::test::Fail;
-
-// A graph in memory under its schema.
-#[derive(Drop)]
-struct Plain {
-    schema: Schema,
-    graph: Graph,
-}
-
-impl Snapshot for Plain {
-    ghost graph = { λ at. at.graph };
-
-    ghost declared = { λ at. at.schema };
-
-    fn schema(&self) -> &Schema {
-        &self.schema
-    }
-
-    fn objects(&self, alloc: Global, p: &str, s: u64) -> Mem<Vec<Posting>> {
-        self.graph.objects(alloc, p, s)
-    }
-}
 
 fn definition(alloc: Global, name: &str, kind: Kind, list: bool) -> Mem<PredDef> {
     Ok(PredDef {
@@ -49,7 +31,7 @@ fn definition(alloc: Global, name: &str, kind: Kind, list: bool) -> Mem<PredDef>
 }
 
 // Names of nodes, and lists of friends.
-fn people(alloc: Global) -> Mem<Schema> {
+pub fn people(alloc: Global) -> Mem<Schema> {
     let names = Schema::single(alloc, definition(alloc, "name", Kind::Text, false)?)?;
     let friends = Schema::single(alloc, definition(alloc, "friend", Kind::Uid, true)?)?;
     names.with(&friends)
@@ -61,14 +43,14 @@ fn name(alloc: Global, s: u64, name: &str) -> Mem<Triple> {
     Ok(Triple { s, p, o })
 }
 
-fn friend(alloc: Global, s: u64, o: u64) -> Mem<Triple> {
+pub fn friend(alloc: Global, s: u64, o: u64) -> Mem<Triple> {
     let p = Str::from_str(alloc, "friend")?;
     let o = Posting::Uid(o);
     Ok(Triple { s, p, o })
 }
 
 // The graph that changes make of none.
-fn made(alloc: Global, schema: &Schema, changes: &[Change]) -> Mem<Graph>
+pub fn made(alloc: Global, schema: &Schema, changes: &[Change]) -> Mem<Graph>
     requires fitting { AreFitting schema.now changes.now }
     ensures { IfOk result (λ graph. IsLawful schema.now graph) }
 {
@@ -96,6 +78,38 @@ fn changes(alloc: Global) -> Mem<Vec<Change>> {
     changes.push(Change::Set(friend(alloc, 1, 3)?))?;
     changes.push(Change::Del(name(alloc, 2, "Bob")?))?;
     Ok(changes)
+}
+
+// The offer of changes whose reads nobody counts.
+fn offered<L: Ledger>(alloc: Global, at: &Plain, changes: &[Change], blank: Blank) -> Mem<Offer>
+    requires name { blank.name ≡ L.name }
+    requires parts { blank.parts ≡ L.parts }
+    requires some { 0 < blank.parts }
+    requires plain { IsPlain at.now.schema }
+    requires fitting { AreFitting at.now.schema changes.now }
+    requires lawful { IsLawful at.now.schema at.now.graph }
+{
+    offer_of(alloc, at, 7, changes, &mut Steps::<L>::new(blank))
+}
+
+// How many parts and keys changes have.
+fn counts<L: Ledger>(
+    alloc: Global,
+    at: &Plain,
+    changes: &[Change],
+    blank: Blank,
+) -> Mem<(usize, usize)>
+    requires name { blank.name ≡ L.name }
+    requires parts { blank.parts ≡ L.parts }
+    requires some { 0 < blank.parts }
+    requires plain { IsPlain at.now.schema }
+    requires fitting { AreFitting at.now.schema changes.now }
+    requires lawful { IsLawful at.now.schema at.now.graph }
+{
+    let mut reads = Steps::<L>::new(blank);
+    let parts = deltas_of(alloc, at, changes, &mut reads)?.len();
+    let keys = conflict_keys(alloc, at, changes, &mut reads)?.len();
+    Ok((parts, keys))
 }
 
 // The texts of keys, each with a semicolon behind it.
@@ -150,7 +164,8 @@ fn an_offer_of_four_changes(rt: HostRuntime) -> Result<(), Fail> {
     let graph = made(alloc, &schema, before.as_slice())?;
     let changes = changes(alloc)?;
     assert!(rt; are_fitting(&schema, changes.as_slice()));
-    let offer = offer_of(alloc, &Plain { schema, graph }, 7, changes.as_slice())?;
+    let at = Plain { schema, graph };
+    let offer = offered::<Brand>(alloc, &at, changes.as_slice(), Blank::new(1))?;
     assert_eq!(rt; offer.start, 7);
     assert_eq!(rt; offer.changes.len(), changes.len());
     assert!(rt; are_preds(offer.preds.as_slice()));
@@ -168,8 +183,9 @@ fn changes_of_what_is_there_have_keys_and_no_parts(rt: HostRuntime) -> Result<()
     assert!(rt; is_plain(&schema) && are_fitting(&schema, again.as_slice()));
     let graph = made(alloc, &schema, again.as_slice())?;
     let at = Plain { schema, graph };
-    assert!(rt; deltas_of(alloc, &at, again.as_slice())?.is_empty());
-    assert_eq!(rt; conflict_keys(alloc, &at, again.as_slice())?.len(), 3);
+    let (parts, keys) = counts::<Brand>(alloc, &at, again.as_slice(), Blank::new(1))?;
+    assert_eq!(rt; parts, 0);
+    assert_eq!(rt; keys, 3);
     assert_eq!(rt; preds_of(alloc, again.as_slice())?.len(), 2);
     Ok(())
 }
