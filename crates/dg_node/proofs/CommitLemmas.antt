@@ -13,7 +13,7 @@ use Rattle.dg_oracle.specs.declared.verdict.Verdict.TheVariants as verdicts
 use Rattle.dg_wire.specs.declared.refusal.Refusal.TheVariants as refusals
 use Rattle.dg_zero.specs.declared.entry.Reason.{Reason}
 use Rattle.dg_zero.specs.declared.entry.Reason.TheVariants as reasons
-use Rattle.dg_zero.specs.declared.entry.Event.TheVariants.{Begin, Refused, End, Look}
+use Rattle.dg_zero.specs.declared.entry.Event.TheVariants.{Begin, Refused, End, Lease, Look}
 use Rattle.dg_zero.specs.declared.offer.Offer.{Offer}
 use Rattle.dg_zero.specs.Listings.{conflict_keys}
 use Rattle.dg_zero.specs.States.{Zero, commit_of}
@@ -42,6 +42,9 @@ use Rattle.dg_node.proofs.KeptLemmas.{Ends, active_here, opened_here}
 
 pub look_quiet : IsQuiet Look
 look_quiet = record { no_alter = refl; no_commit = refl; none_asked = refl; same_world = λ w. refl }
+
+pub lease_quiet : (top count first : ℕ) → IsQuiet (Lease top count first)
+lease_quiet top count first = record { no_alter = refl; no_commit = refl; none_asked = refl; same_world = λ w. refl }
 
 pub begin_quiet : (start : ℕ) → IsQuiet (Begin start)
 begin_quiet start = record { no_alter = refl; no_commit = refl; none_asked = refl; same_world = λ w. refl }

@@ -78,7 +78,7 @@ module _ (z : Zero) (os : List Opened) (k : IsKept z os) (sid place : ℕ) (a : 
   conflict_steps key ts text w m then text_is clash some s = (
     without_session m sid,
     commit_clashes m sid a.it (open_here z os k sid place a m s) a.is (refusals.Conflict ts text) some (clashes z os a.before a.after a.it k a.whole offer is m s key ts text text_is clash),
-    subst (λ (y : Zero). StandFor y (remove os place) (without_session m sid)) (sym then) (stand_ended z os k sid place a m slip (Refused offer.start (reasons.Conflict key ts)) s (refused_quiet offer.start (reasons.Conflict key ts)) refl),
+    subst (λ (y : Zero). StandFor y (remove os place) (without_session m sid)) (sym then) (stand_ended z os k sid place a m slip (Refused offer.start (reasons.Conflict key ts)) s (refused_quiet offer.start (reasons.Conflict key ts)) refl refl),
   )
 
   pub moves_never : (pred : List ℕ) → zeros.verdict z.history offer.start offer.preds offer.keys ≡ Some (reasons.Moving pred) → ⊥

@@ -13,7 +13,7 @@ use Rattle.dg_edges.specs.Deltas.{AreFitting, IsPlain, IsPlainDefinition}
 use Rattle.dg_oracle.specs.Commits as oracle
 use Rattle.dg_zero.specs.declared.entry.Entry.{Entry}
 use Rattle.dg_zero.specs.declared.entry.Event.{Event}
-use Rattle.dg_zero.specs.declared.entry.Event.TheVariants.{Begin, Look}
+use Rattle.dg_zero.specs.declared.entry.Event.TheVariants.{Begin, Lease, Look}
 use Rattle.dg_zero.specs.declared.place.Phase.TheVariants.{Idle}
 use Rattle.dg_zero.specs.declared.place.Place.{Place}
 use Rattle.dg_zero.specs.Counters.{Started, next, active, active_after, ended, starts_of, is_active_of, line}
@@ -119,6 +119,11 @@ ended_kept z os before after o author event k e ends legal =
 pub look_kept : (z : Zero) (os : List Opened) (author : ℕ) → IsKept z os → IsLegal z.groups (and_entry z.history author Look) → IsKept (and_then z author Look) os
 look_kept z os author k legal =
     still_kept z os os author Look k (record { schema_stays = λ w. refl; places_stay = λ s. refl }) legal (active_push z.history (record { author = author; event = Look }) ∙ k.active_are) k.apart k.each
+
+-- nodes are leased
+pub lease_kept : (z : Zero) (os : List Opened) (author top count first : ℕ) → IsKept z os → IsLegal z.groups (and_entry z.history author (Lease top count first)) → IsKept (and_then z author (Lease top count first)) os
+lease_kept z os author top count first k legal =
+    still_kept z os os author (Lease top count first) k (record { schema_stays = λ w. refl; places_stay = λ s. refl }) legal (active_push z.history (record { author = author; event = Lease top count first }) ∙ k.active_are) k.apart k.each
 
 -- a transaction begins
 pub begun_kept : (z : Zero) (os : List Opened) (o : Opened) → IsKept z os → IsLegal z.groups (and_entry z.history 0 (Begin o.start)) → AllByRecursion (λ p. p.sid ≢ o.sid) os → IsOpened (and_entry z.history 0 (Begin o.start)) o → IsKept (and_then z 0 (Begin o.start)) (os ++ o ∷ [])

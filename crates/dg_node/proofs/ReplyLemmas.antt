@@ -4,7 +4,6 @@ use Rattle.std.specs.Prelude.{◌==◌, nat_lt, is_some, position, find}
 use Rattle.std.specs.List.{list_any}
 use Rattle.std.proofs.lemmas.Grind.{common_steps}
 use Rattle.dg_schema.specs.declared.definition.PredDef.{PredDef}
-use Rattle.dg_schema.specs.Definitions.{definition_of}
 use Rattle.dg_graph.specs.declared.change.Change.{Change}
 use Rattle.dg_wire.specs.declared.refusal.Refusal.{Refusal}
 use Rattle.dg_wire.specs.declared.refusal.Refusal.TheVariants as refusals
@@ -12,12 +11,10 @@ use Rattle.dg_wire.specs.declared.reply.Reply.{Reply}
 use Rattle.dg_wire.specs.declared.reply.Reply.TheVariants as replies
 use Rattle.dg_zero.specs.States.{Zero}
 use Rattle.dg_node.specs.declared.engine.Opened.{Opened}
-use Rattle.dg_node.specs.Schemas.{schema_at}
-use Rattle.dg_node.specs.Machine.{Machine, Session, session_of, is_open, with_session, with_change, without_session, drawn}
+use Rattle.dg_node.specs.Machine.{Machine, Session, session_of, is_open, with_session, without_session, drawn}
 use Rattle.dg_node.specs.Alters.{has_directive, least_start, first_with_data, present_schema, present_graph, declared, declared_unless, altered}
 use Rattle.dg_node.specs.Transactions.{begun, committed, committed_with, committed_unless, clash_of, with_commit, discarded}
-use Rattle.dg_node.specs.Mutations.{mutated, text_set, takes_text, no_uids}
-use Rattle.dg_node.specs.Queries.{queried, seen, answer_text}
+use Rattle.dg_node.specs.Queries.{queried, answered, answer_in}
 use Rattle.dg_node.specs.Kept.{IsKept}
 use Rattle.dg_node.specs.State.{session_from}
 use Rattle.dg_node.proofs.Standing.{StandFor}
@@ -95,13 +92,7 @@ module _ (m : Machine) (sid : ℕ) (o : Opened) (opens : session_of m sid ≡ So
 
   -- ---- the others
 
-  pub mutated_is : (uid : ℕ) (name value : List ℕ) → takes_text (definition_of (schema_at m.alters o.start) name) ≡ true → ◌≡◌ {A = Pair} (mutated m sid uid name value) (replies.Mutate sid no_uids, with_change m sid (text_set uid name value))
-  mutated_is uid name value there = rw (opens, there) refl
-
-  pub mutation_unbuilt : (uid : ℕ) (name value : List ℕ) → takes_text (definition_of (schema_at m.alters o.start) name) ≡ false → ◌≡◌ {A = Pair} (mutated m sid uid name value) (replies.Refused refusals.Unbuilt, m)
-  mutation_unbuilt uid name value none = rw (opens, none) refl
-
-  pub queried_is : (uid : ℕ) (name : List ℕ) → ◌≡◌ {A = Pair} (queried m sid uid name) (replies.Query sid (answer_text name (seen m (session_from o) uid name)), m)
+  pub queried_is : (uid : ℕ) (name : List ℕ) → ◌≡◌ {A = Pair} (queried m sid uid name) (answered m sid (answer_in m (session_from o) uid name))
   queried_is uid name = rw opens refl
 
 module _ (m : Machine) (sid : ℕ) (closed : session_of m sid ≡ None) where
@@ -111,16 +102,13 @@ module _ (m : Machine) (sid : ℕ) (closed : session_of m sid ≡ None) where
   pub no_discard : ◌≡◌ {A = Pair} (discarded m sid) (replies.Refused (refusals.NoSession sid), m)
   no_discard = rw closed refl
 
-  pub no_mutation : (uid : ℕ) (name value : List ℕ) → ◌≡◌ {A = Pair} (mutated m sid uid name value) (replies.Refused (refusals.NoSession sid), m)
-  no_mutation uid name value = rw closed refl
-
   pub no_query : (uid : ℕ) (name : List ℕ) → ◌≡◌ {A = Pair} (queried m sid uid name) (replies.Refused (refusals.NoSession sid), m)
   no_query uid name = rw closed refl
 
 -- ---- alter
 
 module _ (m : Machine) (newer : List PredDef) where
-  pub declared_is : (start ts : ℕ) → m.next + 1 < 2 ^ 62 → start ≡ m.next → ts ≡ m.next + 1 → ◌≡◌ {A = Pair} (declared m newer) (replies.Alter start ts, record { groups = m.groups; next = m.next + 2; alters = m.alters ++ (record { start = m.next; ts = m.next + 1; definitions = newer }) ∷ []; commits = m.commits; sessions = m.sessions })
+  pub declared_is : (start ts : ℕ) → m.next + 1 < 2 ^ 62 → start ≡ m.next → ts ≡ m.next + 1 → ◌≡◌ {A = Pair} (declared m newer) (replies.Alter start ts, record { groups = m.groups; next = m.next + 2; next_uid = m.next_uid; alters = m.alters ++ (record { start = m.next; ts = m.next + 1; definitions = newer }) ∷ []; commits = m.commits; sessions = m.sessions })
   declared_is start ts lt e f = rw (less (m.next + 1) lt, e, f) refl
 
   pub alter_spent : (spent : ℕ) → 2 ^ 62 - 1 ≤ m.next → spent ≡ m.next → ◌≡◌ {A = Pair} (declared m newer) (replies.Refused (refusals.TimestampsSpent spent), m)

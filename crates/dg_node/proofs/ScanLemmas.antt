@@ -1,5 +1,5 @@
--- The bodies that are taken apart are those of the forms.
-use Rattle.std.proofs.Common.{◌≡◌, ℕ, ◌<◌, ◌≤◌, Bool, true, false, ◌&&◌, ◌||◌, cond, eqb, List, [], ◌∷◌, ◌++◌, length, Option, Some, None, refl, ap, sym, subst, ◌∙◌, arith}
+-- The body that is taken apart is the one of the form.
+use Rattle.std.proofs.Common.{◌≡◌, ℕ, ◌<◌, ◌≤◌, Bool, true, false, cond, eqb, List, [], ◌∷◌, ◌++◌, length, Option, Some, None, refl, ap, sym, subst, ◌∙◌, arith}
 use Rattle.std.specs.Prelude.{codes, nat_lt, nat_le, IfSome, IfNone}
 use Rattle.std.specs.Option.{option_map, option_and_then}
 use Rattle.std.specs.List.{list_all}
@@ -7,9 +7,8 @@ use Rattle.std.specs.Char.{digit_value}
 use Rattle.std.specs.Str.Parse.{AllDigits, digits_value}
 use Rattle.std.proofs.lemmas.Bool.{eqb-true, and_parts}
 use Rattle.std.proofs.lemmas.Bool.Decides.{nat_tests}
-use Rattle.dg_wire.specs.Names.{starts_name, goes_on, is_dot_before, is_name_end, is_name}
-use Rattle.dg_node.specs.Bodies.{is_predicate, is_plain, IsNode, Sets, Asks}
-use Rattle.dg_node.specs.Scanning.{after_front, before_end, cut_at, is_hex, uid_of, plain_triple, set_by, asked_by}
+use Rattle.dg_node.specs.Bodies.{is_predicate, IsNode, Asks}
+use Rattle.dg_node.specs.Scanning.{after_front, before_end, cut_at, is_hex, uid_of, asked_by}
 use Rattle.dg_node.proofs.CutLemmas.{passed, after_front-sound, after_front-append, before_end-sound, before_end-append, cut_at-sound, cut_at-first, Lacks}
 use Rattle.dg_node.proofs.HexLemmas.{all_hex}
 use Rattle.dg_node.proofs.Bools.{joined}
@@ -40,26 +39,6 @@ digits_lack : (byte : ℕ) (ds : List ℕ) → (digit_value byte < 16 → ⊥) �
 digits_lack byte [] other h = tt
 digits_lack byte (d ∷ ds) other h = (no_digit byte d other h.0, digits_lack byte ds other h.1)
 
-starts_lack : (c : ℕ) → starts_name c ≡ true → eqb c 62 ≡ false
-starts_lack c h = grind (arith, nat_tests)
-
-part_lack : (c : ℕ) (cs : List ℕ) → (goes_on c || is_dot_before c cs) ≡ true → eqb c 62 ≡ false
-part_lack c [] h = grind (arith, nat_tests)
-part_lack c (d ∷ ds) h = grind (arith, nat_tests)
-
-end_lack : (cs : List ℕ) → is_name_end cs ≡ true → Lacks 62 cs
-end_lack [] h = tt
-end_lack (c ∷ cs) h =
-    let parts = and_parts (goes_on c || is_dot_before c cs) (is_name_end cs) h in
-    (part_lack c cs parts.0, end_lack cs parts.1)
-
-name_lacks : (cs : List ℕ) → is_name cs ≡ true → Lacks 62 cs
-name_lacks [] h = tt
-name_lacks (c ∷ cs) h =
-    let parts = and_parts (starts_name c) _ h in
-    let rest = and_parts _ (is_name_end cs) parts.1 in
-    (starts_lack c parts.0, end_lack cs rest.1)
-
 -- ---- the node that digits name
 
 hex_all : (ds : List ℕ) → AllDigits 16 ds → list_all is_hex ds ≡ true
@@ -71,14 +50,14 @@ unfolding uid_of
 uid_of-sound ds uid e =
     let all = passed _ (digits_value 16 ds) uid e in
     let some = and_parts (nat_lt 0 (length ds)) _ all.0 in
-    let most = and_parts (nat_le (length ds) 15) _ some.1 in
+    let most = and_parts (nat_le (length ds) 16) _ some.1 in
     let each = and_parts (list_all is_hex ds) _ most.1 in
     let is : digits_value 16 ds ≡ uid = all.1 in
     let above : 0 < digits_value 16 ds = let h : nat_lt 0 (digits_value 16 ds) ≡ true = each.1 in grind (arith, nat_tests) in
     record {
       each = all_hex ds each.0;
       some = let h : nat_lt 0 (length ds) ≡ true = some.0 in grind (arith, nat_tests);
-      most = let h : nat_le (length ds) 15 ≡ true = most.0 in grind (arith, nat_tests);
+      most = let h : nat_le (length ds) 16 ≡ true = most.0 in grind (arith, nat_tests);
       value = is;
       not_zero = subst (λ (n : ℕ). 0 < n) is above;
     }
@@ -88,91 +67,10 @@ unfolding uid_of
 uid_of-exact ds uid node =
     let above : 0 < digits_value 16 ds = subst (λ (n : ℕ). 0 < n) (sym node.value) node.not_zero in
     let some : nat_lt 0 (length ds) ≡ true = let h : 0 < length ds = node.some in grind (arith, nat_tests) in
-    let most : nat_le (length ds) 15 ≡ true = let h : length ds ≤ 15 = node.most in grind (arith, nat_tests) in
+    let most : nat_le (length ds) 16 ≡ true = let h : length ds ≤ 16 = node.most in grind (arith, nat_tests) in
     let not_zero : nat_lt 0 (digits_value 16 ds) ≡ true = grind (arith, nat_tests) in
-    let test = joined (nat_lt 0 (length ds)) _ some (joined (nat_le (length ds) 15) _ most (joined (list_all is_hex ds) _ (hex_all ds node.each) not_zero)) in
+    let test = joined (nat_lt 0 (length ds)) _ some (joined (nat_le (length ds) 16) _ most (joined (list_all is_hex ds) _ (hex_all ds node.each) not_zero)) in
     ap (λ (b : Bool). cond b (Some (digits_value 16 ds)) None) test ∙ ap (λ (n : ℕ). Some n) node.value
-
--- ---- what is set
-
-abbrev set_node : List ℕ → List ℕ → List ℕ → Option (ℕ × List ℕ × List ℕ)
-set_node digits name value = option_and_then (λ uid. plain_triple uid name value) (uid_of digits)
-
-abbrev set_value : List ℕ → List ℕ → List ℕ → Option (ℕ × List ℕ × List ℕ)
-set_value digits name c = option_and_then (set_node digits name) (before_end (codes "\" .") c)
-
-abbrev set_quote : List ℕ → List ℕ × List ℕ → Option (ℕ × List ℕ × List ℕ)
-set_quote digits name = option_and_then (set_value digits name.0) (after_front (codes " \"") name.1)
-
-abbrev set_name : List ℕ → List ℕ → Option (ℕ × List ℕ × List ℕ)
-set_name digits b = option_and_then (set_quote digits) (cut_at 62 b)
-
-abbrev set_open : List ℕ × List ℕ → Option (ℕ × List ℕ × List ℕ)
-set_open digits = option_and_then (set_name digits.0) (after_front (codes " <") digits.1)
-
-abbrev set_digits : List ℕ → Option (ℕ × List ℕ × List ℕ)
-set_digits a = option_and_then set_open (cut_at 62 a)
-
-set_parts : (body : List ℕ) → set_by body ≡ option_and_then set_digits (after_front (codes "<0x") body)
-unfolding set_by
-set_parts body = refl
-
-pairs : (p q : ℕ × List ℕ × List ℕ) → p ≡ q → (p.0 ≡ q.0) × (p.1 ≡ q.1) × (p.2 ≡ q.2)
-pairs p q e = (ap (λ (r : ℕ × List ℕ × List ℕ). r.0) e, ap (λ (r : ℕ × List ℕ × List ℕ). r.1) e, ap (λ (r : ℕ × List ℕ × List ℕ). r.2) e)
-
-set_by-sound : (body : List ℕ) (uid : ℕ) (name value : List ℕ) → set_by body ≡ Some (uid, name, value) → Sets body uid name value
-set_by-sound body uid name value e =
-    let a = stepped set_digits (after_front (codes "<0x") body) (uid, name, value) (sym (set_parts body) ∙ e) in
-    let d = stepped set_open (cut_at 62 a.value) (uid, name, value) a.then in
-    let b = stepped (set_name d.value.0) (after_front (codes " <") d.value.1) (uid, name, value) d.then in
-    let n = stepped (set_quote d.value.0) (cut_at 62 b.value) (uid, name, value) b.then in
-    let c = stepped (set_value d.value.0 n.value.0) (after_front (codes " \"") n.value.1) (uid, name, value) n.then in
-    let v = stepped (set_node d.value.0 n.value.0) (before_end (codes "\" .") c.value) (uid, name, value) c.then in
-    let u = stepped (λ (k : ℕ). plain_triple k n.value.0 v.value) (uid_of d.value.0) (uid, name, value) v.then in
-    let test = passed (is_name n.value.0 && list_all is_plain v.value) (u.value, n.value.0, v.value) (uid, name, value) u.then in
-    let plain = and_parts (is_name n.value.0) (list_all is_plain v.value) test.0 in
-    let is = pairs (u.value, n.value.0, v.value) (uid, name, value) test.1 in
-    let name_is : n.value.0 ≡ name = is.1 in
-    let value_is : v.value ≡ value = is.2 in
-    let rest : c.value ≡ value ++ codes "\" ." = before_end-sound (codes "\" .") c.value v.value v.first ∙ ap (λ (l : List ℕ). l ++ codes "\" .") value_is in
-    let quoted : b.value ≡ name ++ (codes "> \"" ++ (value ++ codes "\" .")) =
-    cut_at-sound 62 b.value n.value.0 n.value.1 n.first ∙ ap (λ (l : List ℕ). n.value.0 ++ (62 ∷ l)) (after_front-sound (codes " \"") n.value.1 c.value c.first)
-    ∙ ap (λ (l : List ℕ). n.value.0 ++ (codes "> \"" ++ l)) rest ∙ ap (λ (l : List ℕ). l ++ (codes "> \"" ++ (value ++ codes "\" ."))) name_is in
-    let opened : a.value ≡ d.value.0 ++ (codes "> <" ++ (name ++ (codes "> \"" ++ (value ++ codes "\" .")))) =
-    cut_at-sound 62 a.value d.value.0 d.value.1 d.first ∙ ap (λ (l : List ℕ). d.value.0 ++ (62 ∷ l)) (after_front-sound (codes " <") d.value.1 b.value b.first)
-    ∙ ap (λ (l : List ℕ). d.value.0 ++ (codes "> <" ++ l)) quoted in
-    record {
-      digits = d.value.0;
-      node = subst (IsNode d.value.0) is.0 (uid_of-sound d.value.0 u.value u.first);
-      predicate = subst (λ (l : List ℕ). is_name l ≡ true) name_is plain.0;
-      plain = subst (λ (l : List ℕ). list_all is_plain l ≡ true) value_is plain.1;
-      text = after_front-sound (codes "<0x") body a.value a.first ∙ ap (λ (l : List ℕ). codes "<0x" ++ l) opened;
-    }
-
-set_by-exact : (body : List ℕ) (uid : ℕ) (name value : List ℕ) → Sets body uid name value → set_by body ≡ Some (uid, name, value)
-set_by-exact body uid name value sets =
-    let digits = sets.digits in
-    let rest = value ++ codes "\" ." in
-    let quoted = name ++ (codes "> \"" ++ rest) in
-    let opened = digits ++ (codes "> <" ++ quoted) in
-    set_parts body
-    ∙ ap (λ (b : List ℕ). option_and_then set_digits (after_front (codes "<0x") b)) sets.text
-    ∙ ap (option_and_then set_digits) (after_front-append (codes "<0x") opened)
-    ∙ ap (option_and_then set_open) (cut_at-first 62 digits (codes " <" ++ quoted) (digits_lack 62 digits (λ h. omega (arith, h)) sets.node.each))
-    ∙ ap (option_and_then (set_name digits)) (after_front-append (codes " <") quoted)
-    ∙ ap (option_and_then (set_quote digits)) (cut_at-first 62 name (codes " \"" ++ rest) (name_lacks name sets.predicate))
-    ∙ ap (option_and_then (set_value digits name)) (after_front-append (codes " \"") rest)
-    ∙ ap (option_and_then (set_node digits name)) (before_end-append (codes "\" .") value)
-    ∙ ap (option_and_then (λ (k : ℕ). plain_triple k name value)) (uid_of-exact digits uid sets.node)
-    ∙ ap (λ (b : Bool). cond b (Some (uid, name, value)) None) (joined (is_name name) (list_all is_plain value) sets.predicate sets.plain)
-
-pub set_found : {A : Type 0} (uid : A → ℕ) (name value : A → List ℕ) (body : List ℕ) (o : Option A) → option_map (λ x. (uid x, name x, value x)) o ≡ set_by body → IfSome o (λ x. Sets body (uid x) (name x) (value x))
-set_found uid name value body None e = tt
-set_found uid name value body (Some x) e = set_by-sound body (uid x) (name x) (value x) (sym e)
-
-pub set_none : {A : Type 0} (uid : A → ℕ) (name value : A → List ℕ) (body : List ℕ) (o : Option A) → option_map (λ x. (uid x, name x, value x)) o ≡ set_by body → IfNone o ((u : ℕ) (n v : List ℕ) → ¬ Sets body u n v)
-set_none uid name value body None e = λ u n v sets. no_some (u, n, v) (e ∙ set_by-exact body u n v sets)
-set_none uid name value body (Some x) e = tt
 
 -- ---- what is asked for
 
@@ -235,12 +133,6 @@ asked_none uid name body None e = λ u n asks. no_some (u, n) (e ∙ asked_by-ex
 asked_none uid name body (Some x) e = tt
 
 -- ---- each body says one thing
-
-one_set : (x y : ℕ × List ℕ × List ℕ) → Some x ≡ Some y → x ≡ y
-one_set x y e = cc
-
-pub sets_one : (body : List ℕ) (u v : ℕ) (m n x y : List ℕ) → Sets body u m x → Sets body v n y → (u ≡ v) × (m ≡ n) × (x ≡ y)
-sets_one body u v m n x y a b = pairs (u, m, x) (v, n, y) (one_set (u, m, x) (v, n, y) (sym (set_by-exact body u m x a) ∙ set_by-exact body v n y b))
 
 one_ask : (x y : ℕ × List ℕ) → Some x ≡ Some y → x ≡ y
 one_ask x y e = cc

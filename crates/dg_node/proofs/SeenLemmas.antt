@@ -1,11 +1,16 @@
 -- What an open transaction sees and offers.
-use Rattle.std.proofs.Common.{◌≡◌, ℕ, true, List, [], ap, subst, sym, ◌∙◌, Ok, Err}
+use Rattle.std.proofs.Common.{◌≡◌, ◌≤◌, ℕ, true, List, [], length, take, ap, subst, sym, ◌∙◌, Ok, Err}
 use Rattle.std.specs.Prelude.{Result, IfOk, Option, Some, fold, slice_get}
 use Rattle.std.specs.Option.{option_map_or}
 use Rattle.std.specs.Arc.{arc_value}
+use Rattle.std.proofs.lemmas.List.{take_all}
+use Rattle.dg_values.specs.Ascending.{Ascends}
+use Rattle.dg_values.specs.declared.value.Posting.{Posting}
 use Rattle.dg_schema.specs.declared.definition.PredDef.{PredDef}
 use Rattle.dg_graph.specs.declared.change.Change.{Change}
-use Rattle.dg_graph.specs.Graphs.{objects}
+use Rattle.dg_graph.specs.Graphs.{triple_cmp, objects, after_changes, IsLawful}
+use Rattle.dg_graph.proofs.GraphLaws.{stays_lawful}
+use Rattle.dg_edges.proofs.OfferLaws.{all_fit}
 use Rattle.dg_graph.specs.Changes.{objects_after}
 use Rattle.dg_graph.proofs.ObjectLaws.{objects_after_all}
 use Rattle.dg_keys.specs.declared.conflict.ConflictKey.{ConflictKey}
@@ -43,6 +48,16 @@ module _ (n : ℕ) (h : List Entry) (o : Opened) (l : IsLegal n h) (is : IsOpene
 
   pub start_plain : IsPlain (schema h) → IsPlain (schema_at h o.start)
   start_plain plain = subst IsPlain (sym (schemas_stay n h o.start 0 l a)) plain
+
+  -- what it sees is lawful
+  pub view_lawful : IsLawful (schema_at h o.start) (graph_at h o.start o.own)
+  view_lawful = stays_lawful (schema_at h o.start) (world_at h o.start).graph o.own (all_fit (schema_at h o.start) o.own own_fitting) (world_lawful n h o.start l)
+
+-- the changes so far are all: the objects are those of the graph with the changes
+pub all_seen : (w view : World) (own : List Change) (n : ℕ) (p : List ℕ) (s : ℕ) (os : List Posting) → Ascends triple_cmp w.graph → length own ≤ n → record { schema = w.schema; graph = after_changes w.schema w.graph own } ≡ view → os ≡ fold (objects_after w.schema p s) (objects w.graph p s) (take n own) → os ≡ objects view.graph p s
+all_seen w view own n p s os ascend most is so_far =
+    so_far ∙ (ap (λ (cs : List Change). fold (objects_after w.schema p s) (objects w.graph p s) cs) (take_all n own most)
+    ∙ (sym (objects_after_all w.schema w.graph own p s ascend) ∙ ap (λ (v : World). objects v.graph p s) is))
 
 -- an offer by its parts
 pub offer_made : {E : Type 0} (r : Result Offer E) (h : List Entry) (o : Opened) (w : World) (own : List Change) → w ≡ world_at h o.start → own ≡ o.own → IfOk r (λ offer. offer.start ≡ o.start) → IfOk r (λ offer. offer.changes ≡ own) → IfOk r (λ offer. offer.keys ≡ conflict_keys w.schema w.graph own) → IfOk r (λ offer. offer.parts ≡ deltas w.schema w.graph own) → IfOk r (λ offer. IsSound w.schema w.graph offer.preds offer.keys offer.parts) → IfOk r (IsOfferOf h o)

@@ -1,23 +1,21 @@
 -- What requests of one session make of the engine and of the machine that it stands for.
-use Rattle.std.proofs.Common.{◌≡◌, ℕ, ◌+◌, Bool, true, cond, not, List, [], ◌∷◌, ◌++◌, Option, Some, None, refl, ap, subst, sym, ◌∙◌, arith}
-use Rattle.std.specs.Prelude.{◌==◌, ◌&&◌, map, filter, find, position, slice_index_or, set}
+use Rattle.std.proofs.Common.{◌≡◌, ℕ, ◌+◌, Bool, true, cond, not, List, [], ◌∷◌, ◌++◌, Some, None, refl, ap, subst, sym, ◌∙◌, arith}
+use Rattle.std.specs.Prelude.{◌==◌, map, filter, find, position, slice_index_or, set, Result, Ok, Err, OnOk, OnErr}
 use Rattle.std.specs.List.{remove}
 use Rattle.std.specs.Arc.{arc_value}
-use Rattle.std.proofs.lemmas.List.{map-append}
+use Rattle.std.proofs.lemmas.List.{append-nil, map-append}
 use Rattle.dg_schema.specs.declared.definition.PredDef.{PredDef}
 use Rattle.dg_graph.specs.declared.change.Change.{Change}
-use Rattle.dg_schema.specs.Definitions.{definition_of}
-use Rattle.dg_graph.specs.Graphs.{objects, after_changes, fits, fits_by, is_of_kind}
+use Rattle.dg_graph.specs.Graphs.{objects, after_changes, fits}
 use Rattle.dg_graph.specs.Changes.{changed as of_change}
 use Rattle.dg_edges.specs.Deltas.{AreFitting}
-use Rattle.dg_oracle.proofs.Oracles.{all_push}
 use Rattle.dg_zero.specs.Worlds.{schema, schema_at, graph_at, world_at}
 use Rattle.dg_zero.proofs.SchemasStay.{schemas_stay}
 use Rattle.dg_zero.specs.declared.entry.Event.{Event}
 use Rattle.dg_oracle.specs.Commits as oracle
-use Rattle.dg_zero.specs.declared.entry.Event.TheVariants.{Begin, End, Look}
+use Rattle.dg_zero.specs.declared.entry.Event.TheVariants.{Begin, End, Lease, Look}
 use Rattle.dg_zero.specs.declared.offer.Offer.{Offer}
-use Rattle.dg_zero.specs.Counters.{next, drawn, active, starts_of, is_active_of}
+use Rattle.dg_zero.specs.Counters.{next, next_uid_after, drawn, active, starts_of, is_active_of}
 use Rattle.dg_zero.proofs.Committing.{active_from}
 use Rattle.dg_zero.specs.Legal.{IsLegal}
 use Rattle.dg_zero.specs.States.{Zero, and_then, and_entry, commit_of}
@@ -25,28 +23,25 @@ use Rattle.dg_node.specs.declared.engine.Opened.{Opened}
 use Rattle.dg_node.specs.Schemas.{Alter}
 use Rattle.dg_node.specs.Schemas as machine_schemas
 use Rattle.dg_node.specs.Graphs.{committed_at}
-use Rattle.dg_node.specs.Machine.{Machine, Session, session_of, is_open, changed_if, with_session, with_change, without_session}
+use Rattle.dg_node.specs.Machine.{Machine, Session, session_of, is_open, changed_if, with_session, with_changes, leased_upto, without_session}
 use Rattle.dg_node.specs.Machine as machines
 use Rattle.dg_node.specs.Transactions.{with_commit}
-use Rattle.dg_values.specs.declared.kind.Kind.{Kind}
-use Rattle.dg_values.specs.declared.kind.Kind.TheVariants as kinds
-use Rattle.dg_node.specs.Mutations.{text_set, is_text, takes_text}
 use Rattle.dg_node.specs.Queries.{seen}
 use Rattle.dg_node.proofs.MachineLemmas.{schemas_are}
 use Rattle.dg_node.specs.Kept.{AreApart, IsOpened, IsKept}
-use Rattle.dg_node.specs.State.{session_from, machine_of}
-use Rattle.dg_node.proofs.Standing.{StandFor}
-use Rattle.dg_node.proofs.OneAmong.{Around, without, found, none_has, not_found, changed, removed_is, set_is, it_is}
+use Rattle.dg_node.specs.State.{session_from, machine_of, Leads}
+use Rattle.dg_node.proofs.Standing.{StandFor, from_all}
+use Rattle.dg_node.proofs.OneAmong.{Around, all_joined, without, found, none_has, not_found, changed, removed_is, set_is, it_is}
 use Rattle.dg_node.proofs.StandLemmas.{IsQuiet, stand_quiet, IsCommittedAs, stand_commit}
-use Rattle.dg_node.proofs.KeptLemmas.{Ends, ended_kept, look_kept, changed_kept, active_here, opened_here}
-use Rattle.dg_node.proofs.CommitLemmas.{look_quiet, begin_quiet, end_quiet, end_ends}
+use Rattle.dg_node.proofs.KeptLemmas.{Ends, ended_kept, look_kept, lease_kept, changed_kept, active_here, opened_here}
+use Rattle.dg_node.proofs.CommitLemmas.{look_quiet, lease_quiet, begin_quiet, end_quiet, end_ends}
 
 sid_of : Opened → ℕ
 sid_of o = o.sid
 
 -- nothing happens
 pub stand_look : (z : Zero) (os : List Opened) (m : Machine) (author : ℕ) → StandFor z os m → StandFor (and_then z author Look) os m
-stand_look z os m author s = stand_quiet z os m s author Look os m.sessions m.next look_quiet (omega arith) s.sessions_are
+stand_look z os m author s = stand_quiet z os m s author Look os m.sessions m.next m.next_uid look_quiet (omega arith) refl s.sessions_are
 
 -- a session without a transaction
 pub none_open_here : (z : Zero) (os : List Opened) (m : Machine) (sid : ℕ) → StandFor z os m → position (λ o. o.sid == sid) os ≡ None → session_of m sid ≡ None
@@ -80,9 +75,9 @@ module _ (z : Zero) (os : List Opened) (k : IsKept z os) (sid place : ℕ) (a : 
       ∙ ap (map session_from) (sym (removed_is (λ (o : Opened). o.sid) sid os place a)))
 
   -- its transaction ends without its changes
-  pub stand_ended : (m : Machine) (author : ℕ) (event : Event) → StandFor z os m → IsQuiet event → drawn event ≡ 0 → StandFor (and_then z author event) (remove os place) (without_session m sid)
-  stand_ended m author event s q d =
-      stand_quiet z os m s author event (remove os place) (filter (λ (session : Session). not (session.sid == sid)) m.sessions) m.next q (omega (arith, d)) (others m s)
+  pub stand_ended : (m : Machine) (author : ℕ) (event : Event) → StandFor z os m → IsQuiet event → drawn event ≡ 0 → next_uid_after m.next_uid event ≡ m.next_uid → StandFor (and_then z author event) (remove os place) (without_session m sid)
+  stand_ended m author event s q d u =
+      stand_quiet z os m s author event (remove os place) (filter (λ (session : Session). not (session.sid == sid)) m.sessions) m.next m.next_uid q (omega (arith, d)) (sym u) (others m s)
 
   -- and with them
   pub stand_committed : (m : Machine) (offer : Offer) (ts : ℕ) → (s : StandFor z os m) → ts ≡ next z.history → IsCommittedAs z os m s 0 a.it.start a.it.own offer → StandFor (and_then z 0 (commit_of offer ts)) (remove os place) (without_session (machines.drawn (with_commit m (session_from a.it)) (m.next + 1)) sid)
@@ -92,16 +87,17 @@ module _ (z : Zero) (os : List Opened) (k : IsKept z os) (sid place : ℕ) (a : 
   removed_kept author event e legal =
       subst (IsKept (and_then z author event)) (sym (removed_is (λ (o : Opened). o.sid) sid os place a)) (ended_kept z os a.before a.after a.it author event k a.whole e legal)
 
-  -- one change more
-  pub stand_changed : (m : Machine) (change : Change) (p : Opened) → StandFor z os m → session_from p ≡ record { sid = a.it.sid; start = a.it.start; own = a.it.own ++ change ∷ [] } → StandFor z (a.before ++ p ∷ a.after) (with_change m sid change)
-  stand_changed m change p s e =
-      let grown : map (changed_if sid change) m.sessions ≡ map session_from (a.before ++ p ∷ a.after) =
-      ap (map (changed_if sid change)) (s.sessions_are ∙ ap (map session_from) a.whole)
-      ∙ subst (λ (n : ℕ). map (changed_if n change) (map session_from (a.before ++ a.it ∷ a.after)) ≡ map session_from (a.before ++ p ∷ a.after)) a.is
-      (changed session_from (λ (session : Session). session.sid) (λ (session : Session). record { sid = session.sid; start = session.start; own = session.own ++ change ∷ [] }) a.before a.after a.it p (sym e) apart) in
+  -- more changes
+  pub stand_changed : (m : Machine) (changes : List Change) (p : Opened) → StandFor z os m → session_from p ≡ record { sid = a.it.sid; start = a.it.start; own = a.it.own ++ changes } → StandFor z (a.before ++ p ∷ a.after) (with_changes m sid changes)
+  stand_changed m changes p s e =
+      let grown : map (changed_if sid changes) m.sessions ≡ map session_from (a.before ++ p ∷ a.after) =
+      ap (map (changed_if sid changes)) (s.sessions_are ∙ ap (map session_from) a.whole)
+      ∙ subst (λ (n : ℕ). map (changed_if n changes) (map session_from (a.before ++ a.it ∷ a.after)) ≡ map session_from (a.before ++ p ∷ a.after)) a.is
+      (changed session_from (λ (session : Session). session.sid) (λ (session : Session). record { sid = session.sid; start = session.start; own = session.own ++ changes }) a.before a.after a.it p (sym e) apart) in
       record {
         groups_are = s.groups_are;
         next_is = s.next_is;
+        uid_is = s.uid_is;
         alters_are = s.alters_are;
         commits_are = s.commits_are;
         sessions_are = grown;
@@ -117,7 +113,7 @@ stand_begun z os m sid start o s is e =
     let one : session_from o ≡ record { sid = sid; start = m.next; own = [] } = e ∙ (λ i. record { sid = sid; start = (is ∙ sym s.next_is) i; own = [] }) in
     let back = sym one in
     let all : m.sessions ++ (record { sid = sid; start = m.next; own = [] }) ∷ [] ≡ map session_from (os ++ o ∷ []) = (λ i. s.sessions_are i ++ back i ∷ []) ∙ sym (map-append session_from os (o ∷ [])) in
-    stand_quiet z os m s 0 (Begin start) (os ++ o ∷ []) (m.sessions ++ (record { sid = sid; start = m.next; own = [] }) ∷ []) (m.next + 1) (begin_quiet start) (omega arith) all
+    stand_quiet z os m s 0 (Begin start) (os ++ o ∷ []) (m.sessions ++ (record { sid = sid; start = m.next; own = [] }) ∷ []) (m.next + 1) m.next_uid (begin_quiet start) (omega arith) refl all
 
 -- ---- the transaction at a place ends without its changes
 
@@ -145,7 +141,7 @@ module _ (z : Zero) (os : List Opened) (k : IsKept z os) (sid place : ℕ) (a : 
         (removed_kept z os k sid place a 0 (End a.it.start) (end_ends a.it.start) (subst (λ (y : Zero). IsLegal y.groups y.history) end_is legal))
 
     pub closed_stands : (m : Machine) → StandFor z os m → StandFor w (remove os place) (without_session m sid)
-    closed_stands m s = subst (λ (y : Zero). StandFor y (remove os place) (without_session m sid)) (sym end_is) (stand_ended z os k sid place a m 0 (End a.it.start) s (end_quiet a.it.start) refl)
+    closed_stands m s = subst (λ (y : Zero). StandFor y (remove os place) (without_session m sid)) (sym end_is) (stand_ended z os k sid place a m 0 (End a.it.start) s (end_quiet a.it.start) refl refl)
 
 -- ---- a call that changes nothing
 
@@ -155,36 +151,46 @@ looked_kept z w os author k e legal = subst (λ (y : Zero). IsKept y os) (sym e)
 pub looked_stand : (z w : Zero) (os : List Opened) (m : Machine) (author : ℕ) → w ≡ and_then z author Look → StandFor z os m → StandFor w os m
 looked_stand z w os m author e s = subst (λ (y : Zero). StandFor y os m) (sym e) (stand_look z os m author s)
 
--- ---- the transaction at a place has one change more
+-- ---- nodes are leased
 
-module _ (z : Zero) (os : List Opened) (k : IsKept z os) (sid place : ℕ) (a : Around (λ (o : Opened). o.sid) sid os place) (d : Opened) (e : d ≡ slice_index_or os place d) (change : Change) (own : List Change) (grown : own ≡ d.own ++ change ∷ []) where
+pub leased_kept : (z w : Zero) (os : List Opened) (top count first : ℕ) → IsKept z os → w ≡ and_then z 0 (Lease top count first) → IsLegal w.groups w.history → IsKept w os
+leased_kept z w os top count first k e legal = subst (λ (y : Zero). IsKept y os) (sym e) (lease_kept z os 0 top count first k (subst (λ (y : Zero). IsLegal y.groups y.history) e legal))
+
+pub leased_stand : (z w : Zero) (os : List Opened) (m : Machine) (top count first : ℕ) → w ≡ and_then z 0 (Lease top count first) → StandFor z os m → StandFor w os (leased_upto m (first + count))
+leased_stand z w os m top count first e s =
+    subst (λ (y : Zero). StandFor y os (leased_upto m (first + count))) (sym e)
+    (stand_quiet z os m s 0 (Lease top count first) os m.sessions m.next (first + count) (lease_quiet top count first) (omega arith) refl s.sessions_are)
+
+-- ---- the transaction at a place has more changes
+
+module _ (z : Zero) (os : List Opened) (k : IsKept z os) (sid place : ℕ) (a : Around (λ (o : Opened). o.sid) sid os place) (d : Opened) (e : d ≡ slice_index_or os place d) (changes : List Change) (own : List Change) (grown : own ≡ d.own ++ changes) where
   abbrev pub grown_one : Opened
   grown_one = record { sid = d.sid; start = d.start; schema = d.schema; own = own; slip = d.slip }
 
   it : d ≡ a.it
   it = it_is (λ (o : Opened). o.sid) sid os place a d e
 
-  now_opened : fits (arc_value a.it.schema) (of_change change) ≡ true → IsOpened z.history grown_one
+  now_opened : AreFitting (arc_value a.it.schema) changes → IsOpened z.history grown_one
   now_opened fit =
       let is : IsOpened z.history d = subst (IsOpened z.history) (sym it) (opened_here z os a.before a.after a.it k a.whole) in
-      let here : fits (schema z.history) (of_change change) ≡ true = subst (λ (ds : List PredDef). fits ds (of_change change) ≡ true) (ap (λ (o : Opened). arc_value o.schema) (sym it) ∙ is.schema_is) fit in
+      let here : AreFitting (schema z.history) changes = subst (λ (ds : List PredDef). AreFitting ds changes) (ap (λ (o : Opened). arc_value o.schema) (sym it) ∙ is.schema_is) fit in
       record {
         drawn = is.drawn;
         schema_is = is.schema_is;
-        fitting = subst (AreFitting (schema z.history)) (sym grown) (all_push (λ (c : Change). fits (schema z.history) (of_change c) ≡ true) d.own change is.fitting here);
+        fitting = subst (AreFitting (schema z.history)) (sym grown) (all_joined (λ (c : Change). fits (schema z.history) (of_change c) ≡ true) d.own changes is.fitting here);
         author = is.author;
       }
 
-  pub added_kept : fits (arc_value a.it.schema) (of_change change) ≡ true → IsKept z (set os place grown_one)
+  pub added_kept : AreFitting (arc_value a.it.schema) changes → IsKept z (set os place grown_one)
   added_kept fit =
       subst (IsKept z) (sym (set_is (λ (o : Opened). o.sid) sid os place a grown_one))
       (changed_kept z os a.before a.after a.it grown_one k a.whole (ap (λ (o : Opened). o.sid) it) (ap (λ (o : Opened). o.start) it) (now_opened fit))
 
-  pub added_stands : (m : Machine) → StandFor z os m → StandFor z (set os place grown_one) (with_change m sid change)
+  pub added_stands : (m : Machine) → StandFor z os m → StandFor z (set os place grown_one) (with_changes m sid changes)
   added_stands m s =
-      let all : own ≡ a.it.own ++ change ∷ [] = grown ∙ ap (λ (o : Opened). o.own ++ change ∷ []) it in
-      subst (λ (l : List Opened). StandFor z l (with_change m sid change)) (sym (set_is (λ (o : Opened). o.sid) sid os place a grown_one))
-      (stand_changed z os k sid place a m change grown_one s (λ i. record { sid = (it i).sid; start = (it i).start; own = all i }))
+      let all : own ≡ a.it.own ++ changes = grown ∙ ap (λ (o : Opened). o.own ++ changes) it in
+      subst (λ (l : List Opened). StandFor z l (with_changes m sid changes)) (sym (set_is (λ (o : Opened). o.sid) sid os place a grown_one))
+      (stand_changed z os k sid place a m changes grown_one s (λ i. record { sid = (it i).sid; start = (it i).start; own = all i }))
 
 -- ---- what a session sees
 
@@ -195,21 +201,19 @@ seen_here z os m o uid name s =
     λ i. objects (after_changes (schema_is i) (graph_is i) o.own) name uid
 
 -- the schema of an open transaction is the one at its start
-pub declared_here : (z : Zero) (os : List Opened) (k : IsKept z os) (sid place : ℕ) (a : Around (λ (o : Opened). o.sid) sid os place) (m : Machine) (name : List ℕ) → StandFor z os m → definition_of (machine_schemas.schema_at m.alters a.it.start) name ≡ definition_of (arc_value a.it.schema) name
-declared_here z os k sid place a m name s =
+pub schema_here : (z : Zero) (os : List Opened) (k : IsKept z os) (sid place : ℕ) (a : Around (λ (o : Opened). o.sid) sid os place) (m : Machine) → StandFor z os m → machine_schemas.schema_at m.alters a.it.start ≡ arc_value a.it.schema
+schema_here z os k sid place a m s =
     let there : machine_schemas.schema_at m.alters a.it.start ≡ schema_at z.history a.it.start = ap (λ (l : List Alter). machine_schemas.schema_at l a.it.start) s.alters_are ∙ schemas_are z.history a.it.start in
     let stays : schema_at z.history a.it.start ≡ schema z.history = schemas_stay z.groups z.history a.it.start 0 k.legal (active_here z os a.before a.after a.it k a.whole) in
-    ap (λ (ds : List PredDef). definition_of ds name) (there ∙ stays ∙ sym (opened_here z os a.before a.after a.it k a.whole).schema_is)
+    there ∙ stays ∙ sym (opened_here z os a.before a.after a.it k a.whole).schema_is
 
--- a text fits a predicate of single strings
-pub text_fits : (o : Option PredDef) (uid : ℕ) (name value : List ℕ) → takes_text o ≡ true → fits_by o (of_change (text_set uid name value)) ≡ true
-text_fits None uid name value takes = absurd (cc)
-text_fits (Some def) uid name value takes = by def.kind takes
-  where
-    by : (kind : Kind) → (is_text kind && not def.list) ≡ true → is_of_kind kind (of_change (text_set uid name value)).o ≡ true
-    by kinds.Text e = refl
-    by kinds.Default e = absurd (cc)
-    by kinds.Int e = absurd (cc)
-    by kinds.Bool e = absurd (cc)
-    by kinds.Time e = absurd (cc)
-    by kinds.Uid e = absurd (cc)
+-- ---- the transaction at a place takes more changes, unless memory is wanting
+
+module _ (z : Zero) (os : List Opened) (k : IsKept z os) (sid place : ℕ) (a : Around (λ (o : Opened). o.sid) sid os place) (d : Opened) (e : d ≡ slice_index_or os place d) (changes own : List Change) where
+  pub taken_kept : {A E : Type 0} (r : Result A E) → OnOk r (own ≡ d.own ++ changes) → OnErr r (own ≡ d.own) → AreFitting (arc_value a.it.schema) changes → IsKept z (set os place (record { sid = d.sid; start = d.start; schema = d.schema; own = own; slip = d.slip }))
+  taken_kept (Ok x) ok err fit = added_kept z os k sid place a d e changes own ok fit
+  taken_kept (Err x) ok err fit = added_kept z os k sid place a d e [] own (err ∙ sym (append-nil d.own)) tt
+
+  pub taken_stands : {A E : Type 0} (r : Result A E) → OnOk r (own ≡ d.own ++ changes) → OnOk r (Leads (record { zero = z; opened = os }) (λ m n. n ≡ with_changes m sid changes) (record { zero = z; opened = set os place (record { sid = d.sid; start = d.start; schema = d.schema; own = own; slip = d.slip }) }))
+  taken_stands (Ok x) ok = from_all (λ m s. (with_changes m sid changes, refl, added_stands z os k sid place a d e changes own ok m s))
+  taken_stands (Err x) ok = tt

@@ -2,6 +2,7 @@
 use Rattle.std.proofs.Common.{◌≡◌, ℕ, ◌+◌, ◌<◌, ◌≤◌, Bool, true, false, cond, List, [], ◌∷◌, ◌++◌, refl, ap, sym, ◌∙◌, arith}
 use Rattle.std.specs.Prelude.{nat_le, map}
 use Rattle.std.proofs.lemmas.Grind.{common_steps, flat_map-append}
+use Rattle.std.proofs.lemmas.List.Sums.{fold-append}
 use Rattle.std.proofs.lemmas.List.{append-nil, map-append}
 use Rattle.dg_schema.specs.declared.definition.PredDef.{PredDef}
 use Rattle.dg_graph.specs.declared.change.Change.{Change}
@@ -11,7 +12,7 @@ use Rattle.dg_oracle.specs.Commits as oracle
 use Rattle.dg_oracle.proofs.Oracles.{all_push}
 use Rattle.dg_zero.specs.declared.entry.Entry.{Entry}
 use Rattle.dg_zero.specs.declared.entry.Event.{Event}
-use Rattle.dg_zero.specs.Counters.{next, drawn}
+use Rattle.dg_zero.specs.Counters.{next, drawn, next_uid, next_uid_after}
 use Rattle.dg_zero.specs.States.{Zero, and_then, alter_record}
 use Rattle.dg_zero.specs.States as states
 use Rattle.dg_zero.specs.declared.offer.Offer.{Offer}
@@ -38,6 +39,9 @@ alters_push h e = flat_map-append (λ (e : Entry). alter_of e.event) h (e ∷ []
 pub asked_push : (h : List Entry) (e : Entry) → asked_by (h ++ e ∷ []) ≡ asked_by h ++ asked_of e.event
 asked_push h e = flat_map-append (λ (e : Entry). asked_of e.event) h (e ∷ []) ∙ ap (λ (cs : List Commit). asked_by h ++ cs) (append-nil (asked_of e.event))
 
+pub uid_push : (h : List Entry) (e : Entry) → next_uid (h ++ e ∷ []) ≡ next_uid_after (next_uid h) e.event
+uid_push h e = fold-append (λ (uid : ℕ) (e : Entry). next_uid_after uid e.event) 1 h (e ∷ [])
+
 -- an event that neither alters nor commits
 pub record IsQuiet (event : Event) : Type 0 where
   pub no_alter : alter_of event ≡ []
@@ -46,13 +50,14 @@ pub record IsQuiet (event : Event) : Type 0 where
   pub same_world : (w : World) → world_after w event ≡ w
 
 module _ (z : Zero) (os : List Opened) (m : Machine) (s : StandFor z os m) (author : ℕ) where
-  pub stand_quiet : (event : Event) (ps : List Opened) (sessions : List Session) (later : ℕ) → IsQuiet event → later ≡ m.next + drawn event → sessions ≡ map session_from ps → StandFor (and_then z author event) ps (record { groups = m.groups; next = later; alters = m.alters; commits = m.commits; sessions = sessions })
-  stand_quiet event ps sessions later q is same =
+  pub stand_quiet : (event : Event) (ps : List Opened) (sessions : List Session) (later uid : ℕ) → IsQuiet event → later ≡ m.next + drawn event → uid ≡ next_uid_after m.next_uid event → sessions ≡ map session_from ps → StandFor (and_then z author event) ps (record { groups = m.groups; next = later; next_uid = uid; alters = m.alters; commits = m.commits; sessions = sessions })
+  stand_quiet event ps sessions later uid q is uid_there same =
       let e : Entry = record { author = author; event = event } in
       let grown = next_push z.history e in
       record {
         groups_are = s.groups_are;
         next_is = omega (arith, s.next_is, is);
+        uid_is = uid_there ∙ (ap (λ (u : ℕ). next_uid_after u event) s.uid_is ∙ sym (uid_push z.history e));
         alters_are = s.alters_are ∙ sym (alters_push z.history e ∙ (ap (λ (alts : List Alter). alters z.history ++ alts) q.no_alter ∙ append-nil (alters z.history)));
         commits_are = s.commits_are ∙ sym (asked_push z.history e ∙ (ap (λ (cs : List Commit). asked_by z.history ++ cs) q.none_asked ∙ append-nil (asked_by z.history)));
         sessions_are = same;
@@ -66,17 +71,18 @@ module _ (z : Zero) (os : List Opened) (m : Machine) (s : StandFor z os m) (auth
 
   -- ---- an alter
 
-  pub stand_alter : (newer : List PredDef) (parts : List Part) → StandFor (and_then z author (states.alter_of z newer parts)) os (record { groups = m.groups; next = m.next + 2; alters = m.alters ++ (record { start = m.next; ts = m.next + 1; definitions = newer }) ∷ []; commits = m.commits; sessions = m.sessions })
+  pub stand_alter : (newer : List PredDef) (parts : List Part) → StandFor (and_then z author (states.alter_of z newer parts)) os (record { groups = m.groups; next = m.next + 2; next_uid = m.next_uid; alters = m.alters ++ (record { start = m.next; ts = m.next + 1; definitions = newer }) ∷ []; commits = m.commits; sessions = m.sessions })
   stand_alter newer parts =
       let event : Event = states.alter_of z newer parts in
       let e : Entry = record { author = author; event = event } in
       let a : Alter = record { start = m.next; ts = m.next + 1; definitions = newer } in
-      let n : Machine = record { groups = m.groups; next = m.next + 2; alters = m.alters ++ a ∷ []; commits = m.commits; sessions = m.sessions } in
+      let n : Machine = record { groups = m.groups; next = m.next + 2; next_uid = m.next_uid; alters = m.alters ++ a ∷ []; commits = m.commits; sessions = m.sessions } in
       let grown = next_push z.history e in
       let one : a ∷ [] ≡ alter_of event = λ i. (record { start = s.next_is i; ts = s.next_is i + 1; definitions = newer }) ∷ [] in
       record {
         groups_are = s.groups_are;
         next_is = omega (arith, s.next_is);
+        uid_is = s.uid_is ∙ sym (uid_push z.history e);
         alters_are = ap (λ (alts : List Alter). alts ++ a ∷ []) s.alters_are ∙ (ap (λ (alts : List Alter). alters z.history ++ alts) one ∙ sym (alters_push z.history e));
         commits_are = s.commits_are ∙ sym (asked_push z.history e ∙ append-nil (asked_by z.history));
         sessions_are = s.sessions_are;
@@ -100,12 +106,12 @@ module _ (z : Zero) (os : List Opened) (m : Machine) (s : StandFor z os m) (auth
     pub keys_same : offer.keys ≡ conflict_keys (schema_at z.history start) (graph_at z.history start []) own
     pub parts_do : after_changes (schema z.history) (world z.history).graph own ≡ after_changes (schema z.history) (world z.history).graph (changes_of offer.parts)
 
-  pub stand_commit : (offer : Offer) (ts start : ℕ) (own : List Change) (ps : List Opened) (sessions : List Session) → ts ≡ next z.history → IsCommittedAs start own offer → sessions ≡ map session_from ps → StandFor (and_then z author (states.commit_of offer ts)) ps (record { groups = m.groups; next = m.next + 1; alters = m.alters; commits = m.commits ++ (record { start = start; ts = m.next; changes = own }) ∷ []; sessions = sessions })
+  pub stand_commit : (offer : Offer) (ts start : ℕ) (own : List Change) (ps : List Opened) (sessions : List Session) → ts ≡ next z.history → IsCommittedAs start own offer → sessions ≡ map session_from ps → StandFor (and_then z author (states.commit_of offer ts)) ps (record { groups = m.groups; next = m.next + 1; next_uid = m.next_uid; alters = m.alters; commits = m.commits ++ (record { start = start; ts = m.next; changes = own }) ∷ []; sessions = sessions })
   stand_commit offer ts start own ps sessions ts_is is same =
       let event : Event = states.commit_of offer ts in
       let e : Entry = record { author = author; event = event } in
       let c : Commit = record { start = start; ts = m.next; changes = own } in
-      let n : Machine = record { groups = m.groups; next = m.next + 1; alters = m.alters; commits = m.commits ++ c ∷ []; sessions = sessions } in
+      let n : Machine = record { groups = m.groups; next = m.next + 1; next_uid = m.next_uid; alters = m.alters; commits = m.commits ++ c ∷ []; sessions = sessions } in
       let grown = next_push z.history e in
       let drawn_at : m.next ≡ ts = s.next_is ∙ sym ts_is in
       let schema_there : machines.schema_at m.alters start ≡ schema_at z.history start = ap (λ (alts : List Alter). machines.schema_at alts start) s.alters_are ∙ schemas_are z.history start in
@@ -119,6 +125,7 @@ module _ (z : Zero) (os : List Opened) (m : Machine) (s : StandFor z os m) (auth
       record {
         groups_are = s.groups_are;
         next_is = omega (arith, s.next_is);
+        uid_is = s.uid_is ∙ sym (uid_push z.history e);
         alters_are = s.alters_are ∙ sym (alters_push z.history e ∙ append-nil (alters z.history));
         commits_are = (λ i. s.commits_are i ++ one_asked i) ∙ sym (asked_push z.history e);
         sessions_are = same;

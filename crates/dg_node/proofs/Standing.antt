@@ -2,7 +2,7 @@
 use Rattle.std.proofs.Common.{◌≡◌, ℕ, List, refl, sym, subst}
 use Rattle.std.specs.Prelude.{map}
 use Rattle.std.specs.List.{AllByRecursion}
-use Rattle.dg_zero.specs.Counters.{next}
+use Rattle.dg_zero.specs.Counters.{next, next_uid}
 use Rattle.dg_zero.specs.States.{Zero}
 use Rattle.dg_zero.specs.Verdicts.{commits}
 use Rattle.dg_zero.specs.Worlds.{world_at}
@@ -17,6 +17,7 @@ use Rattle.dg_node.specs.Transactions.{keyed}
 pub record StandFor (zero : Zero) (opened : List Opened) (machine : Machine) : Type 0 where
   pub groups_are : machine.groups ≡ zero.groups
   pub next_is : machine.next ≡ next zero.history
+  pub uid_is : machine.next_uid ≡ next_uid zero.history
   pub alters_are : machine.alters ≡ alters zero.history
   pub commits_are : machine.commits ≡ asked_by zero.history
   pub sessions_are : machine.sessions ≡ map session_from opened
@@ -32,6 +33,7 @@ pub is_machine : (held : Held) (m : Machine) → Stands held m → m ≡ machine
 is_machine held m s = λ i. record {
   groups = s.groups_are i;
   next = s.next_is i;
+  next_uid = s.uid_is i;
   alters = s.alters_are i;
   commits = s.commits_are i;
   sessions = s.sessions_are i;
@@ -50,6 +52,7 @@ pub stands : (held : Held) → Agrees held → Stands held (machine_of held)
 stands held a = record {
   groups_are = refl;
   next_is = refl;
+  uid_is = refl;
   alters_are = refl;
   commits_are = refl;
   sessions_are = refl;

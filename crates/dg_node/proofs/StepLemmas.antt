@@ -1,15 +1,23 @@
 -- A step is a function of the request where memory isn't wanting.
-use Rattle.std.proofs.Common.{◌≡◌, ◌≢◌, ℕ, inl, inr, List, [], ◌∷◌, refl, ap, sym, subst, ◌∙◌}
+use Rattle.std.proofs.Common.{◌≡◌, ◌≢◌, ℕ, inl, inr, Bool, true, false, List, [], ◌∷◌, Option, Some, None, length, refl, ap, sym, subst, ◌∙◌}
+use Rattle.std.specs.Prelude.{◌==◌, Result, Ok, Err}
+use Rattle.std.specs.Str.Lossy.{utf8_valid_len}
 use Rattle.dg_wire.specs.declared.refusal.Refusal.TheVariants as refusals
 use Rattle.dg_wire.specs.declared.reply.Reply.{Reply}
 use Rattle.dg_wire.specs.declared.reply.Reply.TheVariants as replies
 use Rattle.dg_wire.specs.declared.request.Request.{Request}
 use Rattle.dg_wire.specs.declared.request.Request.TheVariants as requests
-use Rattle.dg_node.specs.Machine.{Machine, empty}
-use Rattle.dg_node.specs.Mutations.{mutated, Mutates}
+use Rattle.dg_nquad.specs.declared.fault.NquadFault.{NquadFault}
+use Rattle.dg_nquad.specs.declared.fault.NquadFault.TheVariants as texts
+use Rattle.dg_nquad.specs.declared.mutation.Statement.{Statement}
+use Rattle.dg_nquad.specs.Whole.{mutation}
+use Rattle.dg_edges.proofs.ResolveLaws.{resolves_once}
+use Rattle.dg_node.specs.Schemas.{schema_at}
+use Rattle.dg_node.specs.Machine.{Machine, Session, session_of, empty}
+use Rattle.dg_node.specs.Mutations.{mutated, MutatesBy, MutatesAs, MutatesText, MutatesIn}
 use Rattle.dg_node.specs.Queries.{queried, Queries}
 use Rattle.dg_node.specs.Steps.{Outcome, Step, Steps, HadMemory, IsDetermined}
-use Rattle.dg_node.proofs.ScanLemmas.{sets_one, asks_one}
+use Rattle.dg_node.proofs.ScanLemmas.{asks_one}
 
 abbrev Pair : Type 0
 Pair = Reply × Machine
@@ -18,13 +26,24 @@ Pair = Reply × Machine
 abbrev Same : Reply → Reply → Machine → Machine → Type 0
 Same p q a b = ◌≡◌ {A = Pair} (p, a) (q, b)
 
-mutates_one : (old : Machine) (sid : ℕ) (body : List ℕ) (p q : Reply) (a b : Machine) → Mutates old sid body p a → Mutates old sid body q b → Same p q a b
-mutates_one old sid body p q a b (inl x) (inl y) =
-    let same = sets_one body x.uid y.uid x.name y.name x.value y.value x.form y.form in
-    sym x.outcome ∙ ap (λ (u : ℕ). mutated old sid u x.name x.value) same.0 ∙ ap (λ (n : List ℕ). mutated old sid y.uid n x.value) same.1 ∙ ap (λ (v : List ℕ). mutated old sid y.uid y.name v) same.2 ∙ y.outcome
-mutates_one old sid body p q a b (inl x) (inr y) = absurd (y.other x.uid x.name x.value x.form)
-mutates_one old sid body p q a b (inr x) (inl y) = absurd (x.other y.uid y.name y.value y.form)
-mutates_one old sid body p q a b (inr x) (inr y) = sym x.outcome ∙ y.outcome
+-- statements are checked in one way
+checked_one : (old : Machine) (session : Session) (statements : List Statement) (p q : Reply) (a b : Machine) → MutatesBy old session statements p a → MutatesBy old session statements q b → Same p q a b
+checked_one old session statements p q a b x y =
+    sym x.outcome ∙ ap (mutated old session) (resolves_once (schema_at old.alters session.start) statements x.checked y.checked x.resolves y.resolves) ∙ y.outcome
+
+read_one : (old : Machine) (session : Session) (read : Result (List Statement) NquadFault) (p q : Reply) (a b : Machine) → MutatesAs old session read p a → MutatesAs old session read q b → Same p q a b
+read_one old session (Ok statements) p q a b x y = checked_one old session statements p q a b x y
+read_one old session (Err (texts.BadToken offset)) p q a b x y = sym x ∙ y
+read_one old session (Err (texts.BadSyntax offset)) p q a b x y = sym x ∙ y
+read_one old session (Err texts.OutOfMemory) p q a b x y = absurd x
+
+text_one : (old : Machine) (session : Session) (body : List ℕ) (whole : Bool) (p q : Reply) (a b : Machine) → MutatesText old session body whole p a → MutatesText old session body whole q b → Same p q a b
+text_one old session body true p q a b x y = read_one old session (mutation body) p q a b x y
+text_one old session body false p q a b x y = sym x ∙ y
+
+mutates_one : (old : Machine) (sid : ℕ) (body : List ℕ) (found : Option Session) (p q : Reply) (a b : Machine) → MutatesIn old sid found body p a → MutatesIn old sid found body q b → Same p q a b
+mutates_one old sid body (Some session) p q a b x y = text_one old session body (utf8_valid_len body == length body) p q a b x y
+mutates_one old sid body None p q a b x y = sym x ∙ y
 
 queries_one : (old : Machine) (sid : ℕ) (body : List ℕ) (p q : Reply) (a b : Machine) → Queries old sid body p a → Queries old sid body q b → Same p q a b
 queries_one old sid body p q a b (inl x) (inl y) =
@@ -37,7 +56,7 @@ queries_one old sid body p q a b (inr x) (inr y) = sym x.outcome ∙ y.outcome
 pub outcome_one : (old : Machine) (request : Request) (p q : Reply) (a b : Machine) → Outcome old request p a → Outcome old request q b → Same p q a b
 outcome_one old (requests.Alter body) p q a b x y = sym x ∙ y
 outcome_one old (requests.Begin sid) p q a b x y = sym x ∙ y
-outcome_one old (requests.Mutate sid body) p q a b x y = mutates_one old sid body p q a b x y
+outcome_one old (requests.Mutate sid body) p q a b x y = mutates_one old sid body (session_of old sid) p q a b x y
 outcome_one old (requests.Query sid body) p q a b x y = queries_one old sid body p q a b x y
 outcome_one old (requests.Commit sid) p q a b x y = sym x ∙ y
 outcome_one old (requests.Discard sid) p q a b x y = sym x ∙ y

@@ -1,6 +1,6 @@
--- The bodies that are built: what each text says.
-use Rattle.std.specs.Prelude.{◌≡◌, ℕ, ◌≤◌, ◌<◌, ◌&&◌, not, nat_le, nat_lt, ◌==◌, Bool, true, List, [], ◌∷◌, ◌++◌, length, codes}
-use Rattle.std.specs.List.{list_all, list_any}
+-- The body of a query that is built: what its text says.
+use Rattle.std.specs.Prelude.{◌≡◌, ℕ, ◌≤◌, ◌<◌, ◌&&◌, not, Bool, true, List, [], ◌∷◌, ◌++◌, length, codes}
+use Rattle.std.specs.List.{list_any}
 use Rattle.std.specs.Str.{bytes_eq}
 use Rattle.std.specs.Str.Parse.{AllDigits, digits_value}
 use Rattle.dg_wire.specs.Names.{is_name}
@@ -13,25 +13,13 @@ is_reserved name = list_any (λ word. bytes_eq name word) (codes "uid" ∷ codes
 abbrev pub is_predicate : List ℕ → Bool
 is_predicate name = is_name name && not (is_reserved name)
 
--- one to fifteen hexadecimal digits of either case, not all zero, and the node that they name
+-- one to sixteen hexadecimal digits of either case, not all zero, and the node that they name
 pub record IsNode (digits : List ℕ) (uid : ℕ) : Type 0 where
   pub each : AllDigits 16 digits
   pub some : 0 < length digits
-  pub most : length digits ≤ 15
+  pub most : length digits ≤ 16
   pub value : digits_value 16 digits ≡ uid
   pub not_zero : 0 < uid
-
--- printable ASCII other than a quote and a backslash
-abbrev pub is_plain : ℕ → Bool
-is_plain byte = nat_le 32 byte && (nat_lt byte 127 && (not (byte == 34) && not (byte == 92)))
-
--- `<0xUID> <NAME> "TEXT" .`
-pub record Sets (body : List ℕ) (uid : ℕ) (name value : List ℕ) : Type 0 where
-  pub digits : List ℕ
-  pub node : IsNode digits uid
-  pub predicate : is_name name ≡ true
-  pub plain : list_all is_plain value ≡ true
-  pub text : body ≡ codes "<0x" ++ (digits ++ (codes "> <" ++ (name ++ (codes "> \"" ++ (value ++ codes "\" .")))))
 
 -- `{ q(func: uid(0xUID)) { NAME } }`
 pub record Asks (body : List ℕ) (uid : ℕ) (name : List ℕ) : Type 0 where

@@ -1,64 +1,80 @@
--- What `mutate` does. Only a body that sets one plain text of a predicate of single strings is built.
-use Rattle.std.specs.Prelude.{◌≡◌, ℕ, ◌⊎◌, if◌then◌else◌, Bool, true, false, not, ◌&&◌, Option, Some, None, List, codes}
-use Rattle.dg_values.specs.declared.kind.Kind.{Kind}
-use Rattle.dg_values.specs.declared.kind.Kind.TheVariants as kinds
-use Rattle.dg_values.specs.declared.value.Value.TheVariants as values
-use Rattle.dg_values.specs.declared.value.Posting.TheVariants as postings
+-- What `mutate` does: it adds the changes that the statements of a text stand for to a transaction's own.
+use Rattle.std.specs.Prelude.{◌≡◌, ℕ, ◌+◌, ◌==◌, ◌^◌, max, nat_le, if◌then◌else◌, Bool, true, false, Option, Some, None, List, [], ◌∷◌, length, Result, Ok, Err}
+use Rattle.std.specs.Str.Lossy.{utf8_valid_len}
+use Rattle.dg_wire.specs.declared.refusal.Refusal.{Refusal}
 use Rattle.dg_wire.specs.declared.refusal.Refusal.TheVariants as refusals
 use Rattle.dg_wire.specs.declared.reply.Reply.{Reply}
 use Rattle.dg_wire.specs.declared.reply.Reply.TheVariants as replies
-use Rattle.dg_schema.specs.declared.definition.PredDef.{PredDef}
-use Rattle.dg_schema.specs.Definitions.{definition_of}
-use Rattle.dg_graph.specs.declared.change.Change.{Change}
-use Rattle.dg_graph.specs.declared.change.Change.TheVariants.{Set}
-use Rattle.dg_node.specs.Bodies.{Sets}
+use Rattle.dg_nquad.specs.declared.fault.NquadFault.{NquadFault}
+use Rattle.dg_nquad.specs.declared.fault.NquadFault.TheVariants as texts
+use Rattle.dg_nquad.specs.declared.mutation.Statement.{Statement}
+use Rattle.dg_nquad.specs.Whole.{mutation}
+use Rattle.dg_edges.specs.declared.edge.Edge.{Edge}
+use Rattle.dg_edges.specs.declared.fault.EdgeFault.{EdgeFault}
+use Rattle.dg_edges.specs.declared.fault.EdgeFault.TheVariants as faults
+use Rattle.dg_edges.specs.Resolving.{Resolves}
+use Rattle.dg_edges.specs.Expanding.{new_names, top_uid, expanded}
 use Rattle.dg_node.specs.Schemas.{schema_at}
-use Rattle.dg_node.specs.Machine.{Machine, Session, session_of, with_change}
-use Rattle.dg_node.specs.Replying.{refused, IsUnbuilt}
+use Rattle.dg_node.specs.Graphs.{graph_at}
+use Rattle.dg_node.specs.Machine.{Machine, Session, session_of, with_changes, leased_upto}
+use Rattle.dg_node.specs.NewUids.{uids_text}
+use Rattle.dg_node.specs.Replying.{refused}
 
--- no blank node got a uid
-abbrev pub no_uids : List ℕ
-no_uids = codes "{\"uids\":{}}"
+-- the refusal of a mutation that its schema doesn't allow
+abbrev pub refusal_of : EdgeFault → Refusal
+refusal_of (faults.NoPredicate pred) = refusals.NoPredicate pred
+refusal_of (faults.WrongObject pred) = refusals.WrongObject pred
+refusal_of (faults.BadLiteral pred) = refusals.BadLiteral pred
+refusal_of faults.OutOfMemory = refusals.Memory
 
--- a text is set
-abbrev pub text_set : ℕ → List ℕ → List ℕ → Change
-text_set uid name value = Set (record { s = uid; p = name; o = postings.Val (values.Text value) })
+-- The first of the nodes that a mutation leases, where so many are left: they lie above each node that it names, and above all that were leased.
+abbrev pub first_leased : Machine → List Edge → Option ℕ
+first_leased machine edges =
+    if nat_le (max machine.next_uid (top_uid edges + 1) + length (new_names edges)) (2 ^ 62)
+    then Some (max machine.next_uid (top_uid edges + 1))
+    else None
 
--- the kind of strings
-abbrev pub is_text : Kind → Bool
-is_text kinds.Text = true
-is_text kind = false
+-- The changes are added, over the graph that the transaction sees, and the next node is the one behind the leased.
+abbrev pub added_from : Machine → Session → List Edge → Option ℕ → Reply × Machine
+added_from machine session edges None = refused machine (refusals.UidsSpent machine.next_uid)
+added_from machine session edges (Some first) = (
+  replies.Mutate session.sid (uids_text first (new_names edges)),
+  with_changes (leased_upto machine (first + length (new_names edges))) session.sid (expanded (graph_at machine.alters machine.commits session.start session.own) edges first),
+)
 
--- the predicate is declared as one of single strings
-abbrev pub takes_text : Option PredDef → Bool
-takes_text None = false
-takes_text (Some def) = is_text def.kind && not def.list
+-- A mutation without statements names no node, and leases none.
+abbrev pub added : Machine → Session → List Edge → Reply × Machine
+added machine session [] = (replies.Mutate session.sid (uids_text 0 []), machine)
+added machine session (edge ∷ edges) = added_from machine session (edge ∷ edges) (first_leased machine (edge ∷ edges))
 
--- The change is added to the session's own, where the schema at its start has the predicate as one of single strings; else the form isn't built.
-abbrev pub mutated_by : Machine → ℕ → Option Session → ℕ → List ℕ → List ℕ → Reply × Machine
-mutated_by machine sid None uid name value = refused machine (refusals.NoSession sid)
-mutated_by machine sid (Some session) uid name value =
-    if takes_text (definition_of (schema_at machine.alters session.start) name)
-    then (replies.Mutate sid no_uids, with_change machine sid (text_set uid name value))
-    else refused machine refusals.Unbuilt
+-- what comes of statements that were checked, or of the first that was refused
+abbrev pub mutated : Machine → Session → Result (List Edge) EdgeFault → Reply × Machine
+mutated machine session (Ok edges) = added machine session edges
+mutated machine session (Err fault) = refused machine (refusal_of fault)
 
--- the text of a predicate at a node is set in the session's transaction
-abbrev pub mutated : Machine → ℕ → ℕ → List ℕ → List ℕ → Reply × Machine
-mutated machine sid uid name value = mutated_by machine sid (session_of machine sid) uid name value
+-- statements are checked against the schema at the transaction's start
+pub record MutatesBy (old : Machine) (session : Session) (statements : List Statement) (reply : Reply) (new : Machine) : Type 0 where
+  pub checked : Result (List Edge) EdgeFault
+  pub resolves : Resolves (schema_at old.alters session.start) statements checked
+  pub outcome : mutated old session checked ≡ (reply, new)
 
--- the body sets a text
-pub record MutatesBuilt (old : Machine) (sid : ℕ) (body : List ℕ) (reply : Reply) (new : Machine) : Type 0 where
-  pub uid : ℕ
-  pub name : List ℕ
-  pub value : List ℕ
-  pub form : Sets body uid name value
-  pub outcome : mutated old sid uid name value ≡ (reply, new)
+-- what is read of a text: its statements, or the place of its fault
+abbrev pub MutatesAs : Machine → Session → Result (List Statement) NquadFault → Reply → Machine → Type 0
+MutatesAs old session (Ok statements) reply new = MutatesBy old session statements reply new
+MutatesAs old session (Err (texts.BadToken offset)) reply new = refused old (refusals.BadToken offset) ≡ (reply, new)
+MutatesAs old session (Err (texts.BadSyntax offset)) reply new = refused old (refusals.BadSyntax offset) ≡ (reply, new)
+MutatesAs old session (Err texts.OutOfMemory) reply new = ⊥
 
--- the body sets no text
-pub record MutatesUnbuilt (old : Machine) (sid : ℕ) (body : List ℕ) (reply : Reply) (new : Machine) : Type 0 where
-  pub other : (uid : ℕ) (name value : List ℕ) → ¬ Sets body uid name value
-  pub outcome : IsUnbuilt old reply new
+-- A body that isn't UTF-8 is refused at the first byte that belongs to no whole character.
+abbrev pub MutatesText : Machine → Session → List ℕ → Bool → Reply → Machine → Type 0
+MutatesText old session body true reply new = MutatesAs old session (mutation body) reply new
+MutatesText old session body false reply new = refused old (refusals.BadToken (utf8_valid_len body)) ≡ (reply, new)
 
--- the one or the other
+-- the session's transaction has to be open, before all else
+abbrev pub MutatesIn : Machine → ℕ → Option Session → List ℕ → Reply → Machine → Type 0
+MutatesIn old sid (Some session) body reply new = MutatesText old session body (utf8_valid_len body == length body) reply new
+MutatesIn old sid None body reply new = refused old (refusals.NoSession sid) ≡ (reply, new)
+
+-- what a mutation of a session's transaction is answered and leaves
 abbrev pub Mutates : Machine → ℕ → List ℕ → Reply → Machine → Type 0
-Mutates old sid body reply new = MutatesBuilt old sid body reply new ⊎ MutatesUnbuilt old sid body reply new
+Mutates old sid body reply new = MutatesIn old sid (session_of old sid) body reply new

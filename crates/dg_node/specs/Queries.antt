@@ -1,34 +1,39 @@
 -- What `query` does. Only a body that asks for one predicate of one node is built.
-use Rattle.std.specs.Prelude.{◌≡◌, ℕ, ◌⊎◌, Option, Some, None, List, [], ◌∷◌, ◌++◌, codes}
-use Rattle.dg_values.specs.declared.value.Value.TheVariants as values
-use Rattle.dg_values.specs.declared.value.Posting.{Posting}
-use Rattle.dg_values.specs.declared.value.Posting.TheVariants as postings
+use Rattle.std.specs.Prelude.{◌≡◌, ℕ, ◌⊎◌, nat_le, if◌then◌else◌, Option, Some, None, List, length}
 use Rattle.dg_wire.specs.declared.refusal.Refusal.TheVariants as refusals
 use Rattle.dg_wire.specs.declared.reply.Reply.{Reply}
 use Rattle.dg_wire.specs.declared.reply.Reply.TheVariants as replies
-use Rattle.dg_node.specs.Bodies.{Asks}
+use Rattle.dg_values.specs.declared.value.Posting.{Posting}
+use Rattle.dg_schema.specs.Definitions.{definition_of}
 use Rattle.dg_graph.specs.Graphs.{objects}
+use Rattle.dg_tree.specs.Texts.{answer_text}
+use Rattle.dg_node.specs.Answers.{shown, block_of}
+use Rattle.dg_node.specs.Bodies.{Asks}
 use Rattle.dg_node.specs.Graphs.{graph_at}
+use Rattle.dg_node.specs.Schemas.{schema_at}
 use Rattle.dg_node.specs.Machine.{Machine, Session, session_of}
 use Rattle.dg_node.specs.Replying.{refused, IsUnbuilt}
 
--- The tree of the node, where its object of the predicate is a text: the other kinds of object are declared by no body that is built.
-abbrev pub node_text : List ℕ → List Posting → List ℕ
-node_text name (postings.Val (values.Text text) ∷ []) = codes "{\"" ++ (name ++ (codes "\":\"" ++ (text ++ codes "\"}")))
-node_text name objects = []
+-- the most bytes that the text of an answer may have
+abbrev pub ANSWER_LIMIT : ℕ
+ANSWER_LIMIT = 16777216
 
--- the answer: the block `q` with the node's tree, if it has one. A plain text is its own JSON string (RFC 8259, section 7)
-abbrev pub answer_text : List ℕ → List Posting → List ℕ
-answer_text name objects = codes "{\"data\":{\"q\":[" ++ (node_text name objects ++ codes "]}}")
+-- the text of an answer, unless it is too large
+abbrev pub answered : Machine → ℕ → List ℕ → Reply × Machine
+answered machine sid text = if nat_le (length text) ANSWER_LIMIT then (replies.Query sid text, machine) else refused machine refusals.AnswerTooLarge
 
 -- the objects of the predicate at the node, as the session sees them
 abbrev pub seen : Machine → Session → ℕ → List ℕ → List Posting
 seen machine session uid name = objects (graph_at machine.alters machine.commits session.start session.own) name uid
 
+-- the answer for a predicate of a node, under the schema at the transaction's start
+abbrev pub answer_in : Machine → Session → ℕ → List ℕ → List ℕ
+answer_in machine session uid name = answer_text (block_of name (shown (definition_of (schema_at machine.alters session.start) name) (seen machine session uid name)))
+
 -- the answer, where the session's transaction is open
 abbrev pub queried_by : Machine → ℕ → Option Session → ℕ → List ℕ → Reply × Machine
 queried_by machine sid None uid name = refused machine (refusals.NoSession sid)
-queried_by machine sid (Some session) uid name = (replies.Query sid (answer_text name (seen machine session uid name)), machine)
+queried_by machine sid (Some session) uid name = answered machine sid (answer_in machine session uid name)
 
 -- the query is answered over the graph at the session's start and then its own changes
 abbrev pub queried : Machine → ℕ → ℕ → List ℕ → Reply × Machine

@@ -1,12 +1,11 @@
--- How the bodies that are built are taken apart from the left. The crate's `Bodies` says what they are.
+-- How the body of a query is taken apart from the left. The crate's `Bodies` says what it is.
 use Rattle.std.specs.Prelude.{ℕ, ◌+◌, ◌-◌, ◌==◌, ◌&&◌, nat_le, nat_lt, Bool, if◌then◌else◌, Option, Some, None, List, length, take, drop, codes, position}
 use Rattle.std.specs.Option.{option_and_then, option_map}
 use Rattle.std.specs.List.{list_all}
 use Rattle.std.specs.Str.{bytes_eq}
 use Rattle.std.specs.Str.Parse.{digits_value}
 use Rattle.std.specs.Char.{digit_value}
-use Rattle.dg_wire.specs.Names.{is_name}
-use Rattle.dg_node.specs.Bodies.{is_predicate, is_plain}
+use Rattle.dg_node.specs.Bodies.{is_predicate}
 
 -- what stands behind a text at the front
 abbrev pub after_front : List ℕ → List ℕ → Option (List ℕ)
@@ -26,17 +25,7 @@ is_hex byte = nat_lt (digit_value byte) 16
 
 -- the node that digits name
 unfoldable pub uid_of : List ℕ → Option ℕ
-uid_of digits = if nat_lt 0 (length digits) && (nat_le (length digits) 15 && (list_all is_hex digits && nat_lt 0 (digits_value 16 digits))) then Some (digits_value 16 digits) else None
-
--- a plain text of a predicate at a node
-abbrev pub plain_triple : ℕ → List ℕ → List ℕ → Option (ℕ × List ℕ × List ℕ)
-plain_triple uid name value = if is_name name && list_all is_plain value then Some (uid, name, value) else None
-
--- what `<0xUID> <NAME> "TEXT" .` sets
-unfoldable pub set_by : List ℕ → Option (ℕ × List ℕ × List ℕ)
-set_by body =
-    option_and_then (λ a. option_and_then (λ digits. option_and_then (λ b. option_and_then (λ name. option_and_then (λ c. option_and_then (λ value. option_and_then (λ uid. plain_triple uid name.0 value)
-    (uid_of digits.0)) (before_end (codes "\" .") c)) (after_front (codes " \"") name.1)) (cut_at 62 b)) (after_front (codes " <") digits.1)) (cut_at 62 a)) (after_front (codes "<0x") body)
+uid_of digits = if nat_lt 0 (length digits) && (nat_le (length digits) 16 && (list_all is_hex digits && nat_lt 0 (digits_value 16 digits))) then Some (digits_value 16 digits) else None
 
 -- what `{ q(func: uid(0xUID)) { NAME } }` asks for
 unfoldable pub asked_by : List ℕ → Option (ℕ × List ℕ)

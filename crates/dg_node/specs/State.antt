@@ -4,7 +4,7 @@ use Rattle.std.specs.List.{AllByRecursion}
 use Rattle.dg_zero.specs.declared.entry.Entry.{Entry}
 use Rattle.dg_zero.specs.declared.entry.Event.{Event}
 use Rattle.dg_zero.specs.declared.entry.Event.TheVariants as events
-use Rattle.dg_zero.specs.Counters.{next}
+use Rattle.dg_zero.specs.Counters.{next, next_uid}
 use Rattle.dg_zero.specs.Verdicts.{commits}
 use Rattle.dg_zero.specs.Worlds.{world_at}
 use Rattle.dg_node.specs.declared.engine.Opened.{Opened}
@@ -43,6 +43,7 @@ abbrev pub machine_of : Held → Machine
 machine_of held = record {
   groups = held.zero.groups;
   next = next held.zero.history;
+  next_uid = next_uid held.zero.history;
   alters = alters held.zero.history;
   commits = asked_by held.zero.history;
   sessions = map session_from held.opened;

@@ -1,4 +1,4 @@
-// The bodies that are built, read by hand.
+// The body of a query that is built, read by hand.
 ghost use Rattle.std.specs.Prelude.{◌≡◌, ◌==◌, ◌<◌, ◌^◌, length, position, IfOk, IfSome, IfNone, ℕ, List};
 ghost use Rattle.std.specs.Str.{bytes_eq, IsUtf8};
 ghost use Rattle.std.specs.List.{list_all};
@@ -99,7 +99,7 @@ fn hex_digit(byte: u8) -> u64
 // The value of hexadecimal digits.
 fn hex_value(digits: &[u8]) -> u64
     requires each { AllDigits 16 digits.now }
-    requires small { digits_value 16 digits.now < 2 ^ 60 }
+    requires small { digits_value 16 digits.now < 2 ^ 64 }
     ensures { result ≡ digits_value 16 digits.now }
 {
     let mut value = 0u64;
@@ -109,53 +109,16 @@ fn hex_value(digits: &[u8]) -> u64
     value
 }
 
-// One to fifteen hexadecimal digits, not all zero.
+// One to sixteen hexadecimal digits, not all zero.
 #[tactic(auto, unfolding(crate::specs::Scanning::uid_of))]
 fn uid_of(digits: &[u8]) -> Option<u64>
     ensures { result ≡ scanning.uid_of digits.now }
 {
-    if digits.is_empty() || digits.len() > 15 || !are_hex(digits) {
+    if digits.is_empty() || digits.len() > 16 || !are_hex(digits) {
         return None;
     }
     let value = hex_value(digits);
     if value > 0 { Some(value) } else { None }
-}
-
-// Printable ASCII other than a quote and a backslash.
-fn is_plain(byte: u8) -> bool
-    ensures { result ≡ bodies.is_plain byte }
-{
-    32 <= byte && byte < 127 && byte != b'"' && byte != b'\\'
-}
-
-fn are_plain(text: &[u8]) -> bool
-    ensures { result ≡ list_all bodies.is_plain text.now }
-{
-    text.iter().all(|b| is_plain(*b))
-}
-
-fn plain_triple<'a>(s: u64, p: &'a [u8], text: &'a [u8]) -> Option<(u64, &'a [u8], &'a [u8])>
-    ensures { option_map (λ t. (t.0, t.1.now, t.2.now)) result ≡ scanning.plain_triple s p.now text.now }
-{
-    if is_name(p) && are_plain(text) {
-        Some((s, p, text))
-    } else {
-        None
-    }
-}
-
-// The node, the predicate and the text that are set.
-#[tactic(auto, unfolding(crate::specs::Scanning::set_by))]
-fn scan_set(body: &[u8]) -> Option<(u64, &[u8], &[u8])>
-    ensures { option_map (λ t. (t.0, t.1.now, t.2.now)) result ≡ scanning.set_by body.now }
-{
-    let rest = after_front(b"<0x", body)?;
-    let (digits, rest) = cut_at(b'>', rest)?;
-    let rest = after_front(b" <", rest)?;
-    let (name, rest) = cut_at(b'>', rest)?;
-    let rest = after_front(b" \"", rest)?;
-    let text = before_end(b"\" .", rest)?;
-    plain_triple(uid_of(digits)?, name, text)
 }
 
 // The node and the predicate that are asked for.
@@ -173,14 +136,6 @@ fn scan_asked(body: &[u8]) -> Option<(u64, &[u8])>
     } else {
         None
     }
-}
-
-/// The node, the predicate and the text that the body sets, where it has the form `<0xUID> <NAME> "TEXT" .`.
-pub fn set_by(body: &[u8]) -> Option<(u64, &[u8], &[u8])>
-    ensures found { IfSome result (λ set. bodies.Sets body.now set.0 set.1.now set.2.now) }
-    ensures none { IfNone result ((uid : ℕ) (name value : List ℕ) → ¬ bodies.Sets body.now uid name value) }
-{
-    scan_set(body)
 }
 
 /// The node and the predicate that the body asks for, where it has the form `{ q(func: uid(0xUID)) { NAME } }`.

@@ -1,20 +1,29 @@
 // What `query` does.
-ghost use Rattle.std.specs.Prelude.{◌≡◌, ◌++◌, true, IfOk};
+ghost use Rattle.std.specs.Prelude.{◌≡◌, ◌<◌, true, IfOk};
+ghost use Rattle.dg_schema.specs.Definitions.{definition_of};
 ghost use Rattle.dg_graph.specs.Graphs.{objects};
+ghost use Rattle.dg_tree.specs.Texts.{answer_text};
 ghost use Rattle.dg_zero.specs.Counters.{active, is_active_of};
 ghost use Rattle.dg_zero.specs.Legal.{IsLegal};
-ghost use Rattle.dg_zero.specs.Worlds.{graph_at};
+ghost use Rattle.dg_zero.specs.Worlds.{schema_at, graph_at};
+ghost use Rattle.dg_node.specs.Answers.{shown, block_of};
 ghost use Rattle.dg_node.specs.Kept.{IsOpened};
-ghost use Rattle.dg_node.specs.Queries.{answer_text, node_text};
+ghost use Rattle.dg_node.specs.Machine.{Machine};
+ghost use Rattle.dg_node.specs.Queries.{answered};
 
+use crate::answers::block_of;
 use crate::bodies::{asked_by, text_of};
 use crate::engine::{Engine, Opened, no_session};
 use crate::step::unbuilt;
-use dg_graph::{Snapshot, change_objects};
-use dg_values::{List, Mem, OutOfMemory, Posting, Value};
-use dg_wire::Reply;
+use crate::view::view_of;
+use dg_graph::Snapshot;
+use dg_tree::{Field, TreeFault, answer_text};
+use dg_values::{List, Mem, OutOfMemory, Posting, Steps, Str};
+use dg_wire::{Refusal, Reply};
 use dg_zero::ZeroState;
 use std::alloc::Global;
+use std::marker::Brand;
+use std::sync::ledger::{Blank, Ledger};
 
 impl Engine {
     ghost use Rattle.std.specs.Prelude.{◌≡◌, true, IfOk};
@@ -40,48 +49,64 @@ impl Engine {
             return Ok(no_session(sid));
         };
         let p = text_of(alloc, name)?;
-        let objects = seen_by(alloc, &self.zero, &self.sessions[place], p.as_str(), uid)?;
-        let body = answer_text(alloc, name, objects.as_slice())?;
-        Ok(Reply::Query { sid, body })
+        let block = block_in(alloc, &self.zero, &self.sessions[place], p, uid)?;
+        answer(alloc, sid, block.as_slice())
     }
 }
 
-// The objects of a subject that a transaction sees: those at its start, and then its own changes.
-fn seen_by(alloc: Global, zero: &ZeroState, opened: &Opened, p: &str, s: u64) -> Mem<Vec<Posting>>
+// The text of an answer, unless it is too large.
+fn answer(alloc: Global, sid: u32, block: &[Field]) -> Mem<Reply>
+    ensures { (m : Machine) → IfOk result (λ reply. answered m sid (answer_text block.now) ≡ (reply, m)) }
+{
+    match answer_text(alloc, block) {
+        Ok(text) => Ok(Reply::Query {
+            sid,
+            body: List::from_vec(text.into_bytes()),
+        }),
+        Err(TreeFault::TooLarge) => Ok(Reply::Refused(Refusal::AnswerTooLarge)),
+        Err(TreeFault::OutOfMemory) => Err(OutOfMemory),
+    }
+}
+
+// What is shown of a predicate of a node in the graph that a transaction sees.
+fn block_in(alloc: Global, zero: &ZeroState, opened: &Opened, p: Str, uid: u64) -> Mem<Vec<Field>>
+    requires legal { IsLegal zero.now.groups zero.now.history }
+    requires opened { IsOpened zero.now.history opened.now }
+    requires active { is_active_of (active zero.now.history) opened.now.start 0 ≡ true }
+    ensures { IfOk result (λ block. block.items ≡ block_of p (shown (definition_of (schema_at zero.now.history opened.now.start) p) (objects (graph_at zero.now.history opened.now.start opened.now.own) p uid))) }
+{
+    let objects = seen_by(alloc, zero, opened, &p, uid)?;
+    let definition = opened.schema.lookup(p.as_str());
+    block_of(alloc, p, definition, objects)
+}
+
+// The objects of a subject that a transaction sees.
+fn seen_by(alloc: Global, zero: &ZeroState, opened: &Opened, p: &Str, s: u64) -> Mem<Vec<Posting>>
     requires legal { IsLegal zero.now.groups zero.now.history }
     requires opened { IsOpened zero.now.history opened.now }
     requires active { is_active_of (active zero.now.history) opened.now.start 0 ≡ true }
     ensures { IfOk result (λ v. v.items ≡ objects (graph_at zero.now.history opened.now.start opened.now.own) p.now s) }
 {
-    let seen = zero.seen_at(alloc, &opened.schema, opened.start)?;
-    let mut objects = seen.objects(alloc, p, s)?;
-    let own = opened.own.as_slice();
-    for change in own {
-        change_objects(alloc, &opened.schema, p, s, &mut objects, change)?;
-    }
-    Ok(objects)
+    read_by::<Brand>(alloc, zero, opened, p, s, Blank::new(1))
 }
 
-// Appends the tree of a node, where its object is a text.
-fn push_node(text: &mut Vec<u8>, name: &[u8], objects: &[Posting]) -> Mem<()>
-    ensures { IfOk result (λ u. text.new.items ≡ text.old.items ++ node_text name.now objects.now) }
+// The same, on a ledger of its own for the list that is read.
+fn read_by<L: Ledger>(
+    alloc: Global,
+    zero: &ZeroState,
+    opened: &Opened,
+    p: &Str,
+    s: u64,
+    blank: Blank,
+) -> Mem<Vec<Posting>>
+    requires name { blank.name ≡ L.name }
+    requires parts { blank.parts ≡ L.parts }
+    requires some { 0 < blank.parts }
+    requires legal { IsLegal zero.now.groups zero.now.history }
+    requires opened { IsOpened zero.now.history opened.now }
+    requires active { is_active_of (active zero.now.history) opened.now.start 0 ≡ true }
+    ensures { IfOk result (λ v. v.items ≡ objects (graph_at zero.now.history opened.now.start opened.now.own) p.now s) }
 {
-    if let [Posting::Val(Value::Text(value))] = objects {
-        text.extend_from_slice(b"{\"")?;
-        text.extend_from_slice(name)?;
-        text.extend_from_slice(b"\":\"")?;
-        text.extend_from_slice(value.as_str().as_bytes())?;
-        text.extend_from_slice(b"\"}")?;
-    }
-    Ok(())
-}
-
-// The answer's text.
-fn answer_text(alloc: Global, name: &[u8], objects: &[Posting]) -> Mem<List<u8>>
-    ensures { IfOk result (λ text. text ≡ answer_text name.now objects.now) }
-{
-    let mut text = Vec::from_slice(alloc, b"{\"data\":{\"q\":[")?;
-    push_node(&mut text, name, objects)?;
-    text.extend_from_slice(b"]}}")?;
-    Ok(List::from_vec(text))
+    let view = view_of(alloc, zero, opened)?;
+    view.objects(alloc, p.as_str(), s, &mut Steps::<L>::new(blank))
 }

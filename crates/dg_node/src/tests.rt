@@ -31,20 +31,20 @@ const READERS_REPLIES: &str =
 
 // The whole schema language, and each refusal of an alter in its order.
 const SCHEMAS: &str =
-    "alter 136\n# a catalogue\nname: string .\nage: int .\n<born.at>: dateTime .\nseen: [datetime] .\nfriend: [uid] .\nalive: bool .\nnote: default . # the end\nalter 24\na: string .\nb: strings .\nalter 22\na: string .\n\na: int .\n\nalter 13\na: string .\n!\nalter 13\nuid: string .\nalter 28\na: [uid] @reverse @reverse .\nalter 19\na: [uid] @reverse .\nalter 0\n\nbegin 1\nalter 25\na: string @index(exact) .\nalter 10\na string .\nmutate 1 20\n<0x1> <name> \"Ann\" .\nmutate 1 17\n<0x1> <age> \"7\" .\nmutate 1 18\n<0x1> <nick> \"A\" .\ncommit 1\nbegin 2\nalter 11\nname: int .\ndiscard 2\nalter 38\nage: string .\nname: int .\nalive: int .\nalter 16\nname: [string] .\nalter 45\nname: string .\nage: [string] .\nnick: string .\nbegin 1\nmutate 1 19\n<0x1> <age> \"old\" .\nmutate 1 18\n<0x1> <nick> \"A\" .\nquery 1 30\n{ q(func: uid(0x1)) { name } }\nquery 1 30\n{ q(func: uid(0x1)) { nick } }\n";
+    "alter 136\n# a catalogue\nname: string .\nage: int .\n<born.at>: dateTime .\nseen: [datetime] .\nfriend: [uid] .\nalive: bool .\nnote: default . # the end\nalter 24\na: string .\nb: strings .\nalter 22\na: string .\n\na: int .\n\nalter 13\na: string .\n!\nalter 13\nuid: string .\nalter 28\na: [uid] @reverse @reverse .\nalter 19\na: [uid] @reverse .\nalter 0\n\nbegin 1\nalter 25\na: string @index(exact) .\nalter 10\na string .\nmutate 1 20\n<0x1> <name> \"Ann\" .\nmutate 1 23\n<0x1> <alive> \"maybe\" .\nmutate 1 18\n<0x1> <nick> \"A\" .\ncommit 1\nbegin 2\nalter 11\nname: int .\ndiscard 2\nalter 38\nage: string .\nname: int .\nalive: int .\nalter 16\nname: [string] .\nalter 45\nname: string .\nage: [string] .\nnick: string .\nbegin 1\nmutate 1 19\n<0x1> <age> \"old\" .\nmutate 1 18\n<0x1> <nick> \"A\" .\nquery 1 30\n{ q(func: uid(0x1)) { name } }\nquery 1 30\n{ q(func: uid(0x1)) { nick } }\n";
 
 const SCHEMAS_REPLIES: &str =
-    "ok alter 1 2\nerror 27 SchemaSyntax 2\nerror 27 SchemaSyntax 3\nerror 27 SchemaSyntax 2\nerror 27 SchemaSyntax 1\nerror 27 SchemaSyntax 1\nerror 98 Unbuilt\nok alter 3 4\nok begin 1 5\nerror 98 Unbuilt\nerror 27 SchemaSyntax 1\nok mutate 1 11\n{\"uids\":{}}\nerror 98 Unbuilt\nerror 98 Unbuilt\nok commit 1 6\nok begin 2 7\nerror 20 Pending 7\nok discard 2\nerror 22 HasData name\nerror 22 HasData name\nok alter 8 9\nok begin 1 10\nerror 98 Unbuilt\nok mutate 1 11\n{\"uids\":{}}\nok query 1 31\n{\"data\":{\"q\":[{\"name\":\"Ann\"}]}}\nok query 1 29\n{\"data\":{\"q\":[{\"nick\":\"A\"}]}}\n";
+    "ok alter 1 2\nerror 27 SchemaSyntax 2\nerror 27 SchemaSyntax 3\nerror 27 SchemaSyntax 2\nerror 27 SchemaSyntax 1\nerror 27 SchemaSyntax 1\nerror 98 Unbuilt\nok alter 3 4\nok begin 1 5\nerror 98 Unbuilt\nerror 27 SchemaSyntax 1\nok mutate 1 11\n{\"uids\":{}}\nerror 10 BadLiteral alive\nerror 13 NoPredicate nick\nok commit 1 6\nok begin 2 7\nerror 20 Pending 7\nok discard 2\nerror 22 HasData name\nerror 22 HasData name\nok alter 8 9\nok begin 1 10\nok mutate 1 11\n{\"uids\":{}}\nok mutate 1 11\n{\"uids\":{}}\nok query 1 31\n{\"data\":{\"q\":[{\"name\":\"Ann\"}]}}\nok query 1 29\n{\"data\":{\"q\":[{\"nick\":\"A\"}]}}\n";
 
 // What a script is run with, and what has to come of it.
 #[derive(Clone, Copy)]
-struct Case<'a> {
-    script: &'a str,
-    most: usize,
-    failing_read: u64,
-    failing_write: u64,
-    status: Status,
-    written: &'a str,
+pub struct Case<'a> {
+    pub script: &'a str,
+    pub most: usize,
+    pub failing_read: u64,
+    pub failing_write: u64,
+    pub status: Status,
+    pub written: &'a str,
 }
 
 // A list of one number, or of none for 0, which is no call's number.
@@ -64,7 +64,7 @@ fn words(alloc: Global, text: &str) -> Result<Vec<String>, AllocError> {
     Ok(words)
 }
 
-fn run_case<R: Threads + Wait + Sync + Abort>(
+pub fn run_case<R: Threads + Wait + Sync + Abort>(
     rt: &R,
     alloc: Global,
     case: &Case,

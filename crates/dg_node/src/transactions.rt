@@ -1,5 +1,5 @@
 // What `begin`, `commit` and `discard` do.
-ghost use Rattle.std.specs.Prelude.{◌≡◌, ◌≢◌, [], true, IfOk};
+ghost use Rattle.std.specs.Prelude.{◌≡◌, ◌≢◌, ◌<◌, [], true, IfOk};
 ghost use Rattle.dg_values.specs.Ascending.{Ascends};
 ghost use Rattle.dg_keys.specs.Conflicts.{conflict_cmp};
 ghost use Rattle.dg_oracle.specs.Verdicts.{verdict};
@@ -15,10 +15,12 @@ use crate::engine::{Engine, Opened, no_session};
 use dg_edges::offer_of;
 use dg_keys::conflict_text;
 use dg_oracle::Verdict;
-use dg_values::{List, Mem, OutOfMemory, Str};
+use dg_values::{List, Mem, OutOfMemory, Steps, Str};
 use dg_wire::{Refusal, Reply};
 use dg_zero::{CommitFault, Offer, Slip, ZeroFault, ZeroState};
 use std::alloc::Global;
+use std::marker::Brand;
+use std::sync::ledger::{Blank, Ledger};
 
 impl Engine {
     ghost use Rattle.std.specs.Prelude.{◌≡◌, ◌≢◌, ◌==◌, ◌<◌, [], Some, IfOk, IfSome, OnErr, length, position, slice_get};
@@ -126,8 +128,30 @@ fn offer_at(alloc: Global, zero: &ZeroState, opened: &Opened) -> Mem<Offer>
     requires some { opened.now.own ≢ [] }
     ensures { IfOk result (IsOfferOf zero.now.history opened.now) }
 {
+    offer_in::<Brand>(alloc, zero, opened, Blank::new(1))
+}
+
+// The same, on a ledger of its own for the lists that are read.
+fn offer_in<L: Ledger>(alloc: Global, zero: &ZeroState, opened: &Opened, blank: Blank) -> Mem<Offer>
+    requires name { blank.name ≡ L.name }
+    requires parts { blank.parts ≡ L.parts }
+    requires room { 0 < blank.parts }
+    requires legal { IsLegal zero.now.groups zero.now.history }
+    requires plain { IsPlain (schema zero.now.history) }
+    requires opened { IsOpened zero.now.history opened.now }
+    requires active { is_active_of (active zero.now.history) opened.now.start 0 ≡ true }
+    requires some { opened.now.own ≢ [] }
+    ensures { IfOk result (IsOfferOf zero.now.history opened.now) }
+{
     let seen = zero.seen_at(alloc, &opened.schema, opened.start)?;
-    offer_of(alloc, &seen, opened.start, opened.own.as_slice())
+    let mut reads = Steps::<L>::new(blank);
+    offer_of(
+        alloc,
+        &seen,
+        opened.start,
+        opened.own.as_slice(),
+        &mut reads,
+    )
 }
 
 // The text of the least key of an offer that was committed since its start, and no text where there is none.

@@ -44,5 +44,5 @@ returns-in-Ok-clause-ok c = from_all (λ m s.
     let lt : m.next + 1 < 2 ^ 62 = subst (λ (n : ℕ). n + 1 < 2 ^ 62) (sym stood.next_is) c.in-Ok.ensures.not_spent in
     let start : c.in-Ok.start ≡ m.next = c.in-Ok.ensures.drawn.0 ∙ sym stood.next_is in
     let ts : c.in-Ok.commit ≡ m.next + 1 = c.in-Ok.ensures.drawn.1 ∙ ap (λ (n : ℕ). n + 1) (sym stood.next_is) in
-    let n : Machine = record { groups = m.groups; next = m.next + 2; alters = m.alters ++ (record { start = m.next; ts = m.next + 1; definitions = c.args.newer.now }) ∷ []; commits = m.commits; sessions = m.sessions } in
+    let n : Machine = record { groups = m.groups; next = m.next + 2; next_uid = m.next_uid; alters = m.alters ++ (record { start = m.next; ts = m.next + 1; definitions = c.args.newer.now }) ∷ []; commits = m.commits; sessions = m.sessions } in
     (n, declared_is m c.args.newer.now c.in-Ok.start c.in-Ok.commit lt start ts, subst (λ (w : Zero). StandFor w os n) (sym is) (stand_alter z os m stood 0 c.args.newer.now c.new-2.result)))
