@@ -1,9 +1,17 @@
-//! Operations on the postings of a list, and what they make of it.
+//! Operations on the postings of a list, layers of them, and what they make of a list.
 #![tactic(auto)]
 
+mod deciding;
+mod layer;
+mod merge;
 mod op;
+mod overlay;
 
+pub use deciding::decide;
+pub use layer::Layer;
+pub use merge::merge_ops;
 pub use op::Op;
+pub use overlay::apply;
 
 #[cfg(test)]
 mod tests;

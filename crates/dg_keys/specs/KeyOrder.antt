@@ -206,6 +206,10 @@ key_by_parts a b = ap (λ r. ordering_then (text_cmp (pred_of a) (pred_of b)) r)
 pub key_order : IsOrder key_cmp
 key_order = subst IsOrder (λ i a b. key_by_parts a b i) (by_order key_parts key_parts_cmp key_parts_order same_key_parts)
 
+-- the same in std's words
+pub key_total : IsTotalOrder key_cmp
+key_total = total_from key_cmp key_order
+
 -- ---- conflict keys, by kind, predicate, node, token, object and subject
 
 abbrev conflict_pred : ConflictKey → List ℕ

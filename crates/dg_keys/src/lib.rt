@@ -3,6 +3,7 @@
 
 mod conflict;
 mod key;
+mod key_order;
 mod order;
 mod record;
 mod tablet;

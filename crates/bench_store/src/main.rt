@@ -1,0 +1,29 @@
+//! Prints what the storage core costs: a store of keys, and a posting list of layers.
+//! With the word `time` it prints nanoseconds a call; without it, how many of the calls found something.
+#![tactic(auto)]
+
+mod fault;
+mod lists;
+mod rows;
+mod stores;
+
+use crate::lists::print_list;
+use crate::stores::print_store;
+use anyhow::Result;
+use std::env;
+
+fn main(rt: HostRuntime) -> Result<()> {
+    let timed = env::args(&rt)?.skip(1).any(|word| word.as_str() == "time");
+    let sizes: &[u64] = if timed {
+        &[100, 1_000, 10_000, 100_000]
+    } else {
+        &[10, 100]
+    };
+    for size in sizes {
+        print_store(&rt, rt.alloc(), *size, timed)?;
+    }
+    for size in sizes {
+        print_list(&rt, rt.alloc(), *size, timed)?;
+    }
+    Ok(())
+}

@@ -1,0 +1,2 @@
+-- Places in ascending lists of postings.
+pub mod Places

@@ -1,0 +1,9 @@
+//! Ascending lists of postings that never change.
+#![tactic(auto)]
+
+mod base;
+
+pub use base::Base;
+
+#[cfg(test)]
+mod tests;

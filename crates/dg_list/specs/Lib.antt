@@ -1,0 +1,3 @@
+-- Posting lists: a base, and layers of operations above it.
+pub mod Lists
+pub mod Links

@@ -1,0 +1,207 @@
+// Posting lists.
+ghost use Rattle.std.specs.Prelude.{[], ◌≡◌, ◌+◌, ◌<◌, ◌≤◌, IfOk, nat_le};
+ghost use Rattle.std.specs.Arc.{arc_value};
+ghost use Rattle.std.specs.List.{list_any};
+ghost use Rattle.dg_values.specs.Ascending.{Ascends, has};
+ghost use Rattle.dg_values.specs.Order.{posting_cmp};
+ghost use Rattle.dg_list.specs.Lists.{reading, newest_ts, with_layer, with_base, ReadsAlike};
+
+use crate::layers::{decide_at, with_older};
+use dg_base::Base;
+use dg_delta::{Layer, apply};
+use dg_values::{Mem, OutOfMemory, Posting, Steps};
+use std::alloc::Global;
+use std::marker::Model;
+use std::sync::Arc;
+use std::sync::ledger::Ledger;
+
+/// A posting list that never changes, which contracts see as a base with its timestamp and the layers above it. Lists
+/// that grew from one share what they have in common.
+#[cycle(posting_list)]
+#[derive(Drop)]
+pub struct PList {
+    top: Link,
+}
+
+// A base, or a layer over an older list.
+#[cycle(posting_list)]
+enum Link {
+    Rolled(u64, Arc<Base>),
+    Over(Arc<Layer>, Arc<PList>),
+}
+
+// A list may have very many layers, so they are let go in a loop, up to the first that is shared.
+impl Drop for Link {
+    fn drop(mut self) {
+        loop {
+            match self {
+                Link::Rolled(_, _) => return,
+                Link::Over(_, older) => match Arc::into_inner(older) {
+                    Some(PList { top }) => self = top,
+                    None => return,
+                },
+            }
+        }
+    }
+}
+
+impl Model for PList {
+    ghost use Rattle.std.specs.Prelude.{length};
+    ghost use Rattle.dg_list.specs.Lists.{Layered, IsSound};
+
+    ghost Value = { Layered };
+
+    ghost use Rattle.dg_list.specs.Links.{list_of};
+
+    ghost view = { λ list. list_of list.top };
+
+    ghost invariant = { λ list. IsSound (list_of list.top) };
+
+    ghost size = { λ list. length list.layers };
+
+    ghost use Rattle.std.proofs.Common.{arith};
+
+    ghost size_decreases = { λ list h. Prim.grind (arith) };
+}
+
+impl PList {
+    /// The empty list, with the base timestamp 0. The error is want of memory.
+    pub fn empty(alloc: Global) -> Mem<PList>
+        ensures { IfOk result (λ list. list ≡ record { base_ts = 0; base = []; layers = [] }) }
+    {
+        Ok(PList {
+            top: Link::Rolled(0, Arc::new(alloc, Base::pack(alloc, &[])?)?),
+        })
+    }
+
+    /// An equal list, which shares all with this one. The error is want of memory.
+    pub fn share(&self) -> Mem<PList>
+        ensures { IfOk result (λ list. list ≡ self.now) }
+    {
+        Ok(PList {
+            top: match &self.top {
+                Link::Rolled(ts, base) => Link::Rolled(*ts, Arc::try_clone(base)?),
+                Link::Over(layer, older) => {
+                    Link::Over(Arc::try_clone(layer)?, Arc::try_clone(older)?)
+                }
+            },
+        })
+    }
+
+    /// The list with one more layer, which is newer than all there. The error is want of memory.
+    pub fn with_layer(&self, alloc: Global, layer: Arc<Layer>) -> Mem<PList>
+        requires { newest_ts self.now < (arc_value layer).ts }
+        ensures { IfOk result (λ list. list ≡ with_layer self.now (arc_value layer)) }
+    {
+        Ok(PList {
+            top: Link::Over(layer, Arc::new(alloc, self.share()?)?),
+        })
+    }
+
+    // The list at a timestamp: the operations of its layers as one run, and then those on the base.
+    fn list_at(&self, alloc: Global, ts: u64) -> Mem<Vec<Posting>>
+        ensures list { IfOk result (λ items. items.items ≡ reading self.now ts) }
+        ensures ascend { IfOk result (λ items. Ascends posting_cmp items.items) }
+    {
+        let mut ops = Vec::new(alloc);
+        let mut list = self;
+        loop {
+            match &list.top {
+                Link::Rolled(_, base) => {
+                    let items = base.walk(alloc, 0, base.len())?;
+                    return apply(alloc, items.as_slice(), ops.as_slice());
+                }
+                Link::Over(layer, older) => {
+                    ops = with_older(alloc, layer, ts, ops)?;
+                    list = older;
+                }
+            }
+        }
+    }
+
+    /// The list at a timestamp: the base after the layers at or below it. It is one step. The error is want of memory.
+    pub fn read_at<L: Ledger>(
+        &self,
+        alloc: Global,
+        ts: u64,
+        reads: &mut Steps<L>,
+    ) -> Mem<Vec<Posting>>
+        requires { self.now.base_ts ≤ ts }
+        ensures list { IfOk result (λ items. items.items ≡ reading self.now ts) }
+        ensures ascend { IfOk result (λ items. Ascends posting_cmp items.items) }
+        ensures one_read { reads.new ≡ reads.old + 1 }
+    {
+        reads.tick();
+        self.list_at(alloc, ts)
+    }
+
+    /// Whether the list at a timestamp has the posting. It is one step, and takes no memory.
+    pub fn has_at<L: Ledger>(&self, ts: u64, item: &Posting, reads: &mut Steps<L>) -> bool
+        requires { self.now.base_ts ≤ ts }
+        ensures has { result ≡ has posting_cmp (reading self.now ts) item.now }
+        ensures one_read { reads.new ≡ reads.old + 1 }
+    {
+        reads.tick();
+        let mut list = self;
+        loop {
+            match &list.top {
+                Link::Rolled(_, base) => return base.find(item),
+                Link::Over(layer, older) => match decide_at(layer, ts, item) {
+                    Some(there) => return there,
+                    None => list = older,
+                },
+            }
+        }
+    }
+
+    /// A base that is the list at a timestamp. It is one step. The error is want of memory.
+    pub fn merged<L: Ledger>(&self, alloc: Global, upto: u64, reads: &mut Steps<L>) -> Mem<Base>
+        requires { self.now.base_ts ≤ upto }
+        ensures list { IfOk result (λ base. base ≡ reading self.now upto) }
+        ensures one_read { reads.new ≡ reads.old + 1 }
+    {
+        Base::pack(alloc, self.read_at(alloc, upto, reads)?.as_slice())
+    }
+
+    /// Whether a layer at or below a timestamp is there. It takes no memory.
+    pub fn layered(&self, upto: u64) -> bool
+        ensures { result ≡ list_any (λ layer. nat_le layer.ts upto) self.now.layers }
+    {
+        let mut list = self;
+        loop {
+            match &list.top {
+                Link::Rolled(_, _) => return false,
+                Link::Over(layer, older) => {
+                    if layer.ts() <= upto {
+                        return true;
+                    }
+                    list = older;
+                }
+            }
+        }
+    }
+
+    /// The list with this base in the place of its base and its layers at or below a timestamp, where the base is the
+    /// list at that timestamp. It reads the same from there on. The error is want of memory.
+    pub fn with_base(&self, alloc: Global, base: Arc<Base>, upto: u64) -> Mem<PList>
+        requires from { self.now.base_ts ≤ upto }
+        requires base { arc_value base ≡ reading self.now upto }
+        ensures layers { IfOk result (λ list. list ≡ with_base self.now (arc_value base) upto) }
+        ensures same { IfOk result (λ list. ReadsAlike upto self.now list) }
+    {
+        match &self.top {
+            Link::Rolled(_, _) => Ok(PList {
+                top: Link::Rolled(upto, base),
+            }),
+            Link::Over(layer, older) => {
+                if layer.ts() <= upto {
+                    return Ok(PList {
+                        top: Link::Rolled(upto, base),
+                    });
+                }
+                let layer = Arc::try_clone(layer)?;
+                older.with_base(alloc, base, upto)?.with_layer(alloc, layer)
+            }
+        }
+    }
+}

@@ -1,0 +1,11 @@
+//! Ordered maps that are shared: a changed map leaves the old one as it was.
+#![tactic(auto)]
+
+mod changes;
+mod pages;
+mod places;
+
+pub use pages::Pages;
+
+#[cfg(test)]
+mod tests;

@@ -1,0 +1,2 @@
+-- A store as a map from keys to posting lists.
+pub mod Stores

@@ -1,0 +1,10 @@
+//! Posting lists by their keys.
+#![tactic(auto)]
+
+mod parts;
+mod store;
+
+pub use store::Store;
+
+#[cfg(test)]
+mod tests;

@@ -1,0 +1,123 @@
+// Posting lists by their keys.
+ghost use Rattle.std.specs.Prelude.{[], ◌≡◌, ◌<◌, ◌≤◌, IfOk, Some};
+ghost use Rattle.std.specs.Arc.{arc_value};
+ghost use Rattle.std.specs.Option.{option_map, option_copied};
+ghost use Rattle.std.specs.List.{AllByRecursion};
+ghost use Rattle.dg_values.specs.Ascending.{Ascends};
+ghost use Rattle.dg_delta.specs.Ops.{op_cmp};
+ghost use Rattle.dg_keys.specs.Keys.{key_cmp, part_cmp};
+ghost use Rattle.dg_list.specs.Lists.{newest_ts, reading, with_base};
+ghost use Rattle.dg_pages.specs.Entries.{with_entry, entry_from, change_of};
+ghost use Rattle.dg_store.specs.Stores.{list_under, list_at, held_parts, with_part, after_parts};
+
+use crate::parts::{is_among, layer_of};
+use dg_base::Base;
+use dg_delta::Layer;
+use dg_keys::{Key, Part, Record};
+use dg_list::PList;
+use dg_pages::Pages;
+use dg_values::{Mem, OutOfMemory, Str};
+use std::alloc::Global;
+use std::marker::Model;
+use std::sync::Arc;
+
+/// Posting lists by their keys. Stores that grew from one share what they have in common.
+#[derive(Drop)]
+pub struct Store {
+    lists: Pages<Key, PList>,
+}
+
+impl Model for Store {
+    ghost use Rattle.dg_store.specs.Stores.{Lists};
+
+    ghost Value = { Lists };
+
+    ghost view = { λ store. store.lists };
+}
+
+impl Store {
+    /// The store without lists. The error is want of memory.
+    pub fn new(alloc: Global) -> Mem<Store>
+        ensures { IfOk result (λ store. store ≡ []) }
+    {
+        Ok(Store {
+            lists: Pages::new(alloc)?,
+        })
+    }
+
+    /// An equal store, which shares all with this one. The error is want of memory.
+    pub fn share(&self) -> Mem<Store>
+        ensures { IfOk result (λ store. store ≡ self.now) }
+    {
+        Ok(Store {
+            lists: self.lists.share()?,
+        })
+    }
+
+    /// The list of a key. None exactly where it has none. It takes no memory.
+    pub fn get(&self, key: &Key) -> Option<&Arc<PList>>
+        ensures { option_map arc_value (option_copied result) ≡ list_under key.now self.now }
+    {
+        self.lists.get(key)
+    }
+
+    /// The least key at or above this one, with its list. None exactly where there is none. It takes no memory.
+    pub fn scan(&self, from: &Key) -> Option<(&Arc<Key>, &Arc<PList>)>
+        ensures { option_map (λ p. (arc_value p.0.now, arc_value p.1.now)) result ≡ entry_from key_cmp from.now self.now }
+    {
+        self.lists.next_from(from)
+    }
+
+    /// The store with one more layer for each part of a record whose predicate is among those held. The error is want of
+    /// memory.
+    pub fn with_record(&self, alloc: Global, rec: &Record, held: &[Str]) -> Mem<Store>
+        requires parts { Ascends part_cmp rec.now.parts }
+        requires each { AllByRecursion (λ part. Ascends op_cmp part.ops) rec.now.parts }
+        requires newer { AllByRecursion (λ part. newest_ts (list_at part.key self.now) < rec.now.ts) (held_parts held.now rec.now.parts) }
+        ensures { IfOk result (λ store. store ≡ after_parts rec.now.ts self.now (held_parts held.now rec.now.parts)) }
+    {
+        let mut changes = Vec::new(alloc);
+        for part in rec.parts.as_slice() {
+            if is_among(held, part) {
+                changes.push(self.change(alloc, rec.ts, part)?)?;
+            }
+        }
+        Ok(Store {
+            lists: self.lists.with_changes(alloc, changes)?,
+        })
+    }
+
+    /// The store with this base in the place of the base of a key's list and of its layers at or below a timestamp, where
+    /// the base is that list at that timestamp. The error is want of memory.
+    pub fn with_base(&self, alloc: Global, key: &Key, base: Arc<Base>, upto: u64) -> Mem<Store>
+        requires from { (list_at key.now self.now).base_ts ≤ upto }
+        requires base { arc_value base ≡ reading (list_at key.now self.now) upto }
+        ensures { IfOk result (λ store. store ≡ with_entry key_cmp key.now (with_base (list_at key.now self.now) (arc_value base) upto) self.now) }
+    {
+        let list = match self.get(key) {
+            Some(list) => list.with_base(alloc, base, upto)?,
+            None => PList::empty(alloc)?.with_base(alloc, base, upto)?,
+        };
+        let key = Arc::new(alloc, key.copy(alloc)?)?;
+        let mut changes = Vec::new(alloc);
+        changes.push((key, Some(Arc::new(alloc, list)?)))?;
+        Ok(Store {
+            lists: self.lists.with_changes(alloc, changes)?,
+        })
+    }
+
+    // The list of a part's key with the part as its newest layer.
+    fn change(&self, alloc: Global, ts: u64, part: &Part) -> Mem<(Arc<Key>, Option<Arc<PList>>)>
+        requires ops { Ascends op_cmp part.now.ops }
+        requires newer { newest_ts (list_at part.now.key self.now) < ts }
+        ensures { IfOk result (λ change. change_of change ≡ (part.now.key, Some (with_part ts self.now part.now))) }
+    {
+        let layer = layer_of(alloc, ts, part)?;
+        let list = match self.get(&part.key) {
+            Some(list) => list.with_layer(alloc, layer)?,
+            None => PList::empty(alloc)?.with_layer(alloc, layer)?,
+        };
+        let key = Arc::new(alloc, part.key.copy(alloc)?)?;
+        Ok((key, Some(Arc::new(alloc, list)?)))
+    }
+}

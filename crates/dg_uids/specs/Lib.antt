@@ -1,0 +1,2 @@
+-- Ascending lists of uids as sets, and their pages.
+pub mod Sets

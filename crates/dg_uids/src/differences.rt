@@ -1,0 +1,84 @@
+// The uids of one list that another lacks.
+ghost use Rattle.std.specs.Prelude.{◌≡◌, IfOk};
+ghost use Rattle.std.specs.Ordering.{nat_cmp};
+ghost use Rattle.dg_values.specs.Ascending.{Ascends};
+ghost use Rattle.dg_uids.specs.Sets.{lacking};
+
+use crate::sides::{around, is_much_shorter};
+use dg_sets::is_there;
+use dg_values::{Mem, OutOfMemory};
+use std::alloc::Global;
+use std::cmp::Ordering;
+
+// The uids that the others lack.
+pub(crate) fn difference(alloc: Global, uids: &[u64], others: &[u64]) -> Mem<Vec<u64>>
+    requires uids { Ascends nat_cmp uids.now }
+    requires others { Ascends nat_cmp others.now }
+    ensures { IfOk result (λ list. list.items ≡ lacking uids.now others.now) }
+{
+    if is_much_shorter(uids, others) {
+        missing(alloc, uids, others)
+    } else if is_much_shorter(others, uids) {
+        cut(alloc, uids, others)
+    } else {
+        merged(alloc, uids, others)
+    }
+}
+
+// The few that aren't among the many, which are searched by halves.
+fn missing(alloc: Global, few: &[u64], many: &[u64]) -> Mem<Vec<u64>>
+    requires { Ascends nat_cmp many.now }
+    ensures { IfOk result (λ list. list.items ≡ lacking few.now many.now) }
+{
+    Ok(
+        few.iter()
+            .copied()
+            .filter(|uid| !is_there(many, uid))
+            .collect(alloc)?,
+    )
+}
+
+// The many in runs, cut at the few, which are searched for by halves.
+fn cut(alloc: Global, many: &[u64], few: &[u64]) -> Mem<Vec<u64>>
+    requires many { Ascends nat_cmp many.now }
+    requires few { Ascends nat_cmp few.now }
+    ensures { IfOk result (λ list. list.items ≡ lacking many.now few.now) }
+{
+    let mut list = Vec::new(alloc);
+    let mut rest = many;
+    for uid in few {
+        let (below, above) = around(rest, *uid);
+        list.extend_from_slice(below)?;
+        rest = above;
+    }
+    list.extend_from_slice(rest)?;
+    Ok(list)
+}
+
+// The same by going through both.
+fn merged(alloc: Global, uids: &[u64], others: &[u64]) -> Mem<Vec<u64>>
+    requires uids { Ascends nat_cmp uids.now }
+    requires others { Ascends nat_cmp others.now }
+    ensures { IfOk result (λ list. list.items ≡ lacking uids.now others.now) }
+{
+    let mut list = Vec::new(alloc);
+    let mut at = 0;
+    let mut beside = 0;
+    while at < uids.len() && beside < others.len() {
+        let uid = uids[at];
+        let other = others[beside];
+        match uid.cmp(&other) {
+            Ordering::Less => {
+                list.push(uid)?;
+                at += 1;
+            }
+            Ordering::Greater => beside += 1,
+            Ordering::Equal => {
+                at += 1;
+                beside += 1;
+            }
+        }
+    }
+    list.extend_from_slice(&uids[at..])?;
+    Ok(list)
+}
