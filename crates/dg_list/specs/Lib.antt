@@ -1,3 +1,4 @@
 -- Posting lists: a base, and layers of operations above it.
 pub mod Lists
+pub mod Gathered
 pub mod Links

@@ -1,10 +1,14 @@
 //! Posting lists: a base that never changes, and layers of committed operations above it.
 #![tactic(auto)]
 
-mod layers;
+mod covering;
+mod deciding;
+mod gathered;
 mod plist;
 
 pub use plist::PList;
 
+#[cfg(test)]
+mod model_tests;
 #[cfg(test)]
 mod tests;

@@ -1,14 +1,18 @@
 // Posting lists.
-ghost use Rattle.std.specs.Prelude.{[], ◌≡◌, ◌+◌, ◌<◌, ◌≤◌, IfOk, nat_le};
+ghost use Rattle.std.specs.Prelude.{[], ◌≡◌, ◌+◌, ◌<◌, ◌≤◌, IfOk, nat_le, nat_lt, map, filter, true};
 ghost use Rattle.std.specs.Arc.{arc_value};
 ghost use Rattle.std.specs.List.{list_any};
 ghost use Rattle.dg_values.specs.Ascending.{Ascends, has};
 ghost use Rattle.dg_values.specs.Order.{posting_cmp};
-ghost use Rattle.dg_list.specs.Lists.{reading, newest_ts, with_layer, with_base, ReadsAlike};
+ghost use Rattle.dg_delta.specs.Ops.{op_cmp};
+ghost use Rattle.dg_list.specs.Lists.{reading, newest_ts, IsSound, with_layer, with_base, ReadsAlike};
+ghost use Rattle.dg_list.specs.Links.{Replace};
 
-use crate::layers::{decide_at, with_older};
+use crate::covering::{stand_on_base, stand_on_puts};
+use crate::deciding::decide_at;
+use crate::gathered::{after_gathered, gather};
 use dg_base::Base;
-use dg_delta::{Layer, apply};
+use dg_delta::{Layer, Op};
 use dg_values::{Mem, OutOfMemory, Posting, Steps};
 use std::alloc::Global;
 use std::marker::Model;
@@ -27,7 +31,12 @@ pub struct PList {
 #[cycle(posting_list)]
 enum Link {
     Rolled(u64, Arc<Base>),
-    Over(Arc<Layer>, Arc<PList>),
+    Over {
+        layer: Arc<Layer>,
+        older: Arc<PList>,
+        // Whether nothing of the older list is left under the layer. It may be false where this wasn't found out.
+        alone: bool,
+    },
 }
 
 // A list may have very many layers, so they are let go in a loop, up to the first that is shared.
@@ -36,7 +45,11 @@ impl Drop for Link {
         loop {
             match self {
                 Link::Rolled(_, _) => return,
-                Link::Over(_, older) => match Arc::into_inner(older) {
+                Link::Over {
+                    layer: _,
+                    older,
+                    alone: _,
+                } => match Arc::into_inner(older) {
                     Some(PList { top }) => self = top,
                     None => return,
                 },
@@ -47,15 +60,15 @@ impl Drop for Link {
 
 impl Model for PList {
     ghost use Rattle.std.specs.Prelude.{length};
-    ghost use Rattle.dg_list.specs.Lists.{Layered, IsSound};
+    ghost use Rattle.dg_list.specs.Lists.{Layered};
 
     ghost Value = { Layered };
 
-    ghost use Rattle.dg_list.specs.Links.{list_of};
+    ghost use Rattle.dg_list.specs.Links.{list_of, IsTop};
 
     ghost view = { λ list. list_of list.top };
 
-    ghost invariant = { λ list. IsSound (list_of list.top) };
+    ghost invariant = { λ list. IsTop list.top };
 
     ghost size = { λ list. length list.layers };
 
@@ -81,9 +94,15 @@ impl PList {
         Ok(PList {
             top: match &self.top {
                 Link::Rolled(ts, base) => Link::Rolled(*ts, Arc::try_clone(base)?),
-                Link::Over(layer, older) => {
-                    Link::Over(Arc::try_clone(layer)?, Arc::try_clone(older)?)
-                }
+                Link::Over {
+                    layer,
+                    older,
+                    alone,
+                } => Link::Over {
+                    layer: Arc::try_clone(layer)?,
+                    older: Arc::try_clone(older)?,
+                    alone: *alone,
+                },
             },
         })
     }
@@ -93,12 +112,45 @@ impl PList {
         requires { newest_ts self.now < (arc_value layer).ts }
         ensures { IfOk result (λ list. list ≡ with_layer self.now (arc_value layer)) }
     {
+        let alone = self.is_replaced_by(alloc, layer.ops())?;
+        let older = Arc::new(alloc, self.share()?)?;
         Ok(PList {
-            top: Link::Over(layer, Arc::new(alloc, self.share()?)?),
+            top: Link::Over {
+                layer,
+                older,
+                alone,
+            },
         })
     }
 
-    // The list at a timestamp: the operations of its layers as one run, and then those on the base.
+    // Whether newer operations leave nothing of the list. It goes down by at most as many layers as there are operations,
+    // so false says nothing.
+    fn is_replaced_by(&self, alloc: Global, ops: &[Op]) -> Mem<bool>
+        requires { Ascends op_cmp ops.now }
+        ensures { IfOk result (λ replaced. replaced ≡ true → Replace ops.now self.now) }
+    {
+        let mut list = self;
+        for _ in 0..=ops.len() {
+            match &list.top {
+                Link::Rolled(_, base) => return stand_on_base(alloc, ops, base),
+                Link::Over {
+                    layer,
+                    older,
+                    alone,
+                } => {
+                    let on_puts = stand_on_puts(ops, layer.ops());
+                    if *alone || !on_puts {
+                        return Ok(on_puts);
+                    }
+                    list = older;
+                }
+            }
+        }
+        Ok(false)
+    }
+
+    // The list at a timestamp: the operations of the layers that count, from the newest down to one that stands alone or
+    // to the base, and then their newest on what is below.
     fn list_at(&self, alloc: Global, ts: u64) -> Mem<Vec<Posting>>
         ensures list { IfOk result (λ items. items.items ≡ reading self.now ts) }
         ensures ascend { IfOk result (λ items. Ascends posting_cmp items.items) }
@@ -109,10 +161,17 @@ impl PList {
             match &list.top {
                 Link::Rolled(_, base) => {
                     let items = base.walk(alloc, 0, base.len())?;
-                    return apply(alloc, items.as_slice(), ops.as_slice());
+                    return after_gathered(alloc, items, ops);
                 }
-                Link::Over(layer, older) => {
-                    ops = with_older(alloc, layer, ts, ops)?;
+                Link::Over {
+                    layer,
+                    older,
+                    alone,
+                } => {
+                    gather(alloc, &mut ops, layer, ts)?;
+                    if *alone && layer.ts() <= ts {
+                        return after_gathered(alloc, Vec::new(alloc), ops);
+                    }
                     list = older;
                 }
             }
@@ -146,10 +205,19 @@ impl PList {
         loop {
             match &list.top {
                 Link::Rolled(_, base) => return base.find(item),
-                Link::Over(layer, older) => match decide_at(layer, ts, item) {
-                    Some(there) => return there,
-                    None => list = older,
-                },
+                Link::Over {
+                    layer,
+                    older,
+                    alone,
+                } => {
+                    if let Some(there) = decide_at(layer, ts, item) {
+                        return there;
+                    }
+                    if *alone && layer.ts() <= ts {
+                        return false;
+                    }
+                    list = older;
+                }
             }
         }
     }
@@ -171,7 +239,7 @@ impl PList {
         loop {
             match &list.top {
                 Link::Rolled(_, _) => return false,
-                Link::Over(layer, older) => {
+                Link::Over { layer, older, .. } => {
                     if layer.ts() <= upto {
                         return true;
                     }
@@ -189,18 +257,33 @@ impl PList {
         ensures layers { IfOk result (λ list. list ≡ with_base self.now (arc_value base) upto) }
         ensures same { IfOk result (λ list. ReadsAlike upto self.now list) }
     {
-        match &self.top {
-            Link::Rolled(_, _) => Ok(PList {
-                top: Link::Rolled(upto, base),
-            }),
-            Link::Over(layer, older) => {
-                if layer.ts() <= upto {
-                    return Ok(PList {
-                        top: Link::Rolled(upto, base),
-                    });
+        let mut layers = self.layers_above(alloc, upto)?;
+        let mut list = PList {
+            top: Link::Rolled(upto, base),
+        };
+        while let Some(layer) = layers.pop() {
+            list = list.with_layer(alloc, layer)?;
+        }
+        Ok(list)
+    }
+
+    // The layers above a timestamp, the newest first.
+    fn layers_above(&self, alloc: Global, ts: u64) -> Mem<Vec<Arc<Layer>>>
+        ensures layers { IfOk result (λ layers. map arc_value layers.items ≡ filter (λ layer. nat_lt ts layer.ts) self.now.layers) }
+        ensures sound { IfOk result (λ layers. IsSound self.now) }
+    {
+        let mut layers = Vec::new(alloc);
+        let mut list = self;
+        loop {
+            match &list.top {
+                Link::Rolled(_, _) => return Ok(layers),
+                Link::Over { layer, older, .. } => {
+                    if layer.ts() <= ts {
+                        return Ok(layers);
+                    }
+                    layers.push(Arc::try_clone(layer)?)?;
+                    list = older;
                 }
-                let layer = Arc::try_clone(layer)?;
-                older.with_base(alloc, base, upto)?.with_layer(alloc, layer)
             }
         }
     }

@@ -20,11 +20,11 @@ pub returns-in-Some-clause-has : goal.returns-in-Some-clause-has
 returns-in-Some-clause-has g c =
     let is = ap list_of (sym c.in-Over.is) ∙ c.list.view_is in
     sym (c.loop-list.invariant
-    ∙ has_down c.loop-list.list.now (arc_value c.in-Over.older) (arc_value c.in-Over.layer) is (subst IsSound c.list.view_is c.list.invariant) c.args.ts c.args.item.now (Some c.in-Some.there) (rw c.deref-in-Over.ensures at c.in-Some.ensures))
+    ∙ has_down c.loop-list.list.now (arc_value c.in-Over.older) (arc_value c.in-Over.layer) is (subst IsSound c.list.view_is c.list.invariant.sound) c.args.ts c.args.item.now (Some c.in-Some.there) (rw c.deref-in-Over.ensures at c.in-Some.ensures))
 
 pub loop-list-preserved : goal.loop-list-preserved
 loop-list-preserved g c =
     let is = ap list_of (sym c.in-Over.is) ∙ c.list.view_is in
     rw c.deref-list.ensures
     (c.loop-list.invariant
-    ∙ has_down c.loop-list.list.now (arc_value c.in-Over.older) (arc_value c.in-Over.layer) is (subst IsSound c.list.view_is c.list.invariant) c.args.ts c.args.item.now None (rw c.deref-in-Over.ensures at c.in-None.ensures))
+    ∙ has_down c.loop-list.list.now (arc_value c.in-Over.older) (arc_value c.in-Over.layer) is (subst IsSound c.list.view_is c.list.invariant.sound) c.args.ts c.args.item.now None (rw c.deref-in-Over.ensures at c.in_default.ensures))
