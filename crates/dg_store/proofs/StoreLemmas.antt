@@ -1,11 +1,10 @@
 -- The parts of a record, each on the list of its own key.
-use Rattle.std.proofs.Common.{◌≡◌, ◌<◌, ◌∙◌, sym, ap, subst, arith, refl, ℕ, zero, suc, length, get_or, List, [], ◌∷◌, Bool, true, false, cond, map, fold}
+use Rattle.std.proofs.Common.{◌≡◌, ◌<◌, ◌∙◌, sym, ap, subst, arith, refl, ℕ, zero, suc, length, get_or, List, [], ◌∷◌, Bool, true, false, cond, map}
 use Rattle.std.specs.Prelude.{Option, Some, None, unwrap_or, filter}
 use Rattle.std.specs.List.{AllByRecursion}
-use Rattle.std.specs.Map.{lookup}
 use Rattle.std.specs.declared.cmp.Ordering.{Ordering}
 use Rattle.std.specs.declared.cmp.Ordering.TheVariants.{Less, Equal, Greater}
-use Rattle.std.specs.Ordering.{is_eq, eq_by_cmp, match_ordering}
+use Rattle.std.specs.Ordering.{is_eq, match_ordering}
 use Rattle.dg_values.specs.Ascending.{Ascends}
 use Rattle.dg_sets.proofs.Sets.{all_passed, back}
 use Rattle.dg_keys.specs.Keys.{key_cmp, part_cmp}

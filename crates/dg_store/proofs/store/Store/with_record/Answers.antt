@@ -1,4 +1,4 @@
-use Rattle.std.proofs.Common.{◌≡◌, ◌<◌, ◌≤◌, ◌∙◌, length, get_or, take, map, ap, sym, subst, arith, List}
+use Rattle.std.proofs.Common.{◌≡◌, ◌<◌, ◌≤◌, ◌∙◌, length, get_or, map, ap, sym, subst, arith, List}
 use Rattle.std.proofs.lemmas.List.{take_all}
 use Rattle.dg_keys.specs.Keys.{key_cmp}
 use Rattle.dg_keys.specs.declared.record.Part.{Part}
