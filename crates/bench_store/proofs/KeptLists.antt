@@ -1,6 +1,6 @@
 -- Every list of a store stays below a timestamp.
-use Rattle.std.proofs.Common.{◌≡◌, ◌<◌, ◌≤◌, ◌+◌, arith, refl, ℕ, List, [], ◌∷◌, Bool, true, false, cond}
-use Rattle.std.specs.Prelude.{Option, Some, None, unwrap_or}
+use Rattle.std.proofs.Common.{◌<◌, ◌+◌, arith, ℕ, List, [], ◌∷◌, Bool, true, false, cond}
+use Rattle.std.specs.Prelude.{Some, unwrap_or}
 use Rattle.std.specs.List.{AllByRecursion}
 use Rattle.std.specs.declared.cmp.Ordering.{Ordering}
 use Rattle.std.specs.declared.cmp.Ordering.TheVariants.{Less, Equal, Greater}

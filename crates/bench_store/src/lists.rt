@@ -16,11 +16,17 @@ use std::sync::Arc;
 use std::sync::ledger::{Blank, Ledger};
 use std::time::{Clock, Instant};
 
-// The most layers that are merged, as what that costs grows with their square.
-const MOST_MERGED: u64 = 10_000;
-
 // How many layers are put on top, and how many nodes are looked for.
 const CALLS: u64 = 1_000;
+
+// What each layer of a list does.
+#[derive(Clone, Copy)]
+enum Growth {
+    // Puts in a node.
+    Adding,
+    // Puts in a node in the place of the one before.
+    Replacing,
+}
 
 // Prints what a list with so many layers of one node each costs.
 pub(crate) fn print_list(
@@ -31,7 +37,7 @@ pub(crate) fn print_list(
 ) -> Result<()> {
     let row = Row { size, timed };
     let since = Instant::now(rt)?;
-    let list = grown(alloc, size)?;
+    let list = grown(alloc, size, Growth::Adding)?;
     print_row(
         rt,
         row,
@@ -44,6 +50,56 @@ pub(crate) fn print_list(
     print_reads::<Brand>(rt, alloc, row, &list, Blank::new(1))
 }
 
+// Prints what a list costs of which each of so many layers takes the place of all below.
+pub(crate) fn print_replaced(
+    rt: &(impl Print + Clock),
+    alloc: Global,
+    size: u64,
+    timed: bool,
+) -> Result<()> {
+    let row = Row { size, timed };
+    let since = Instant::now(rt)?;
+    let list = grown(alloc, size, Growth::Replacing)?;
+    print_row(
+        rt,
+        row,
+        "replaced, each with_layer and its layer",
+        size,
+        since,
+        size,
+    )?;
+    print_newest::<Brand>(rt, alloc, row, &list, Blank::new(1))
+}
+
+// Prints what it costs to read what such a list is now.
+fn print_newest<L: Ledger>(
+    rt: &(impl Print + Clock),
+    alloc: Global,
+    row: Row,
+    list: &PList,
+    blank: Blank,
+) -> Result<()>
+    requires name { blank.name ≡ L.name }
+    requires parts { blank.parts ≡ L.parts }
+    requires some { 0 < blank.parts }
+    requires base { list.now.base_ts ≡ 0 }
+{
+    let mut reads: Steps<L> = Steps::new(blank);
+    let since = Instant::now(rt)?;
+    let found = look(list, row.size, 0, CALLS, &mut reads);
+    print_row(rt, row, "replaced, has_at of no node", CALLS, since, found)?;
+    let since = Instant::now(rt)?;
+    let found = read(alloc, list, row.size, CALLS, &mut reads)?;
+    print_row(
+        rt,
+        row,
+        "replaced, read_at of the newest",
+        CALLS,
+        since,
+        found,
+    )
+}
+
 // Prints what a layer costs that is put on top.
 fn print_pushes(rt: &(impl Print + Clock), alloc: Global, row: Row, list: &PList) -> Result<()>
     requires { newest_ts list.now ≤ row.size }
@@ -51,7 +107,7 @@ fn print_pushes(rt: &(impl Print + Clock), alloc: Global, row: Row, list: &PList
     let Some(next) = row.size.checked_add(1) else {
         return Err(Fault::Unordered.into());
     };
-    let top = layer(alloc, next)?;
+    let top = layer(alloc, next, Growth::Adding)?;
     let since = Instant::now(rt)?;
     let made = push(alloc, list, &top)?;
     print_row(rt, row, "layers, with_layer", CALLS, since, made)
@@ -108,10 +164,6 @@ fn print_reads<L: Ledger>(
         since,
         found,
     )?;
-    if newest > MOST_MERGED {
-        println!(rt; "{newest} layers, read_at of the newest: not measured")?;
-        return Ok(());
-    }
     print_merge(rt, alloc, row, list, &mut reads)
 }
 
@@ -131,7 +183,7 @@ fn print_merge<L: Ledger>(
     requires { list.now.base_ts ≡ 0 }
 {
     let newest = row.size;
-    let calls = (MOST_MERGED / newest.max(1)).max(1).min(CALLS);
+    let calls = calls_over(newest);
     let since = Instant::now(rt)?;
     let found = read(alloc, list, newest, calls, reads)?;
     print_row(
@@ -151,7 +203,33 @@ fn print_merge<L: Ledger>(
     print_row(rt, row, "in a base, read_at", calls, since, found)?;
     let since = Instant::now(rt)?;
     let found = look(&rolled, newest, newest, CALLS, reads);
-    print_row(rt, row, "in a base, has_at", CALLS, since, found)
+    print_row(rt, row, "in a base, has_at", CALLS, since, found)?;
+    print_roll(rt, alloc, row, list, reads)
+}
+
+// Prints what it costs to put a base under the newer half of the layers.
+fn print_roll<L: Ledger>(
+    rt: &(impl Print + Clock),
+    alloc: Global,
+    row: Row,
+    list: &PList,
+    reads: &mut Steps<L>,
+) -> Result<()>
+    requires { list.now.base_ts ≡ 0 }
+{
+    let half = row.size / 2;
+    let base = merge(alloc, list, half, reads)?;
+    let since = Instant::now(rt)?;
+    let rolled = roll(alloc, list, base, half)?;
+    let found = look(&rolled, half, half, 1, reads);
+    print_row(
+        rt,
+        row,
+        "layers, with_base under half of them",
+        1,
+        since,
+        found,
+    )
 }
 
 // A base that is the list at a timestamp.
@@ -209,22 +287,25 @@ fn look<L: Ledger>(list: &PList, ts: u64, node: u64, calls: u64, reads: &mut Ste
 }
 
 // A list with a layer for each timestamp up to this one.
-fn grown(alloc: Global, newest: u64) -> Result<PList, Fault>
+fn grown(alloc: Global, newest: u64, growth: Growth) -> Result<PList, Fault>
     ensures newest { IfOk result (λ list. newest_ts list ≤ newest) }
     ensures base { IfOk result (λ list. list.base_ts ≡ 0) }
 {
     let mut list = PList::empty(alloc)?;
     for before in 0..newest {
-        list = list.with_layer(alloc, layer(alloc, before + 1)?)?;
+        list = list.with_layer(alloc, layer(alloc, before + 1, growth)?)?;
     }
     Ok(list)
 }
 
 // A layer that puts in the node with the number of its timestamp.
-fn layer(alloc: Global, ts: u64) -> Result<Arc<Layer>, Fault>
+fn layer(alloc: Global, ts: u64, growth: Growth) -> Result<Arc<Layer>, Fault>
     ensures { IfOk result (λ layer. (arc_value layer).ts ≡ ts) }
 {
     let mut ops = Vec::new(alloc);
+    if let Growth::Replacing = growth {
+        ops.push(Op::Del(Posting::Uid(ts.saturating_sub(1))))?;
+    }
     ops.push(Op::Set(Posting::Uid(ts)))?;
     let Some(layer) = Layer::new(ts, ops) else {
         return Err(Fault::Unordered);

@@ -7,7 +7,7 @@ mod lists;
 mod rows;
 mod stores;
 
-use crate::lists::print_list;
+use crate::lists::{print_list, print_replaced};
 use crate::stores::print_store;
 use anyhow::Result;
 use std::env;
@@ -24,6 +24,7 @@ fn main(rt: HostRuntime) -> Result<()> {
     }
     for size in sizes {
         print_list(&rt, rt.alloc(), *size, timed)?;
+        print_replaced(&rt, rt.alloc(), *size, timed)?;
     }
     Ok(())
 }

@@ -1,4 +1,4 @@
-use Rattle.std.proofs.Common.{◌≡◌, ◌+◌, subst, sym}
+use Rattle.std.proofs.Common.{◌+◌, subst, sym}
 use Rattle.dg_store.specs.Stores.{held_parts}
 use Rattle.bench_store.proofs.KeptLists.{AllBelow, parts_below, after_below, next_below}
 use Rattle.bench_store.proofs.stores.put.Goals as goal
