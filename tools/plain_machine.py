@@ -1,0 +1,761 @@
+#!/usr/bin/env python3
+"""The machine of one thread that keeps committed changes as a list, written plainly.
+
+    plain_machine.py <SCRIPT >REPLIES
+
+It answers a script of frames as `dgraph run` does, for the requests that are built, and is slow: each
+look at the graph begins with the first commit. It was written from the meaning of the requests and not
+from the program, so that the two can be compared (`random_scripts.py`): proofs say that the program
+does what the definitions in `specs/` say, and this asks whether those say what they should.
+
+Queries of another form than `{ q(func: uid(0xUID)) { NAME } }`, directives and the verbs that aren't
+built answer 98. It ends with 4 where the script isn't frames to its end, as the program does. It needs
+Python 3.9 or later.
+"""
+
+from __future__ import annotations
+
+import json
+import re
+import sys
+from collections.abc import Iterable, Iterator
+from dataclasses import dataclass, field
+from typing import NamedTuple, Optional, Union
+
+LAST_UID = 2**62 - 1
+LONGEST_NAME = 64
+LONGEST_ANSWER = 16_777_216
+RESERVED = {"uid", "count", "val", "min", "max", "sum", "as", "expand"}
+
+
+class Refusal(Exception):
+    """A numbered refusal, with its name and fields."""
+
+    def __init__(self, number: int, *words: object) -> None:
+        super().__init__(number)
+        self.line = " ".join(str(word) for word in ("error", number, *words))
+
+
+# ---------------------------------------------------------------------------------------------------
+# Values
+# ---------------------------------------------------------------------------------------------------
+
+
+class Moment(NamedTuple):
+    """Seconds from 1970 on in UTC, and nanoseconds."""
+
+    seconds: int
+    nanoseconds: int
+
+
+Value = Union[str, int, bool, Moment]
+
+
+class Posting(NamedTuple):
+    """What stands in a list: a node, or a value of a kind. Nodes come first, then the ranks of kinds."""
+
+    rank: int
+    key: Union[int, bytes, Moment]
+
+    def value(self) -> Value:
+        if self.rank == TEXT:
+            assert isinstance(self.key, bytes)
+            return self.key.decode()
+        assert not isinstance(self.key, bytes)
+        return bool(self.key) if self.rank == BOOL else self.key
+
+
+NODE, INT, TEXT, BOOL, TIME = range(5)
+RANKS = {"int": INT, "string": TEXT, "default": TEXT, "bool": BOOL, "dateTime": TIME}
+KINDS = {word: word for word in ("default", "string", "int", "bool", "dateTime", "uid")}
+KINDS["datetime"] = "dateTime"
+
+WHEN = re.compile(
+    r"(\d{4})-(\d\d)-(\d\d)"
+    r"(?:[Tt](\d\d):(\d\d):(\d\d)(?:\.(\d{1,9}))?(?:[Zz]|([+-])(\d\d):(\d\d))?)?",
+    re.ASCII,
+)
+
+
+def days_before(year: int, month: int, day: int) -> int:
+    """The days from 0000-01-01 to a date of the Gregorian calendar."""
+    leap = year % 4 == 0 and year % 100 != 0 or year % 400 == 0
+    lengths = [31, 29 if leap else 28, 31, 30, 31, 30, 31, 31, 30, 31, 30, 31]
+    past = year - 1
+    years = 365 * year + (past // 4 - past // 100 + past // 400 + 1 if year else 0)
+    return years + sum(lengths[: month - 1]) + day - 1
+
+
+def days_in(year: int, month: int) -> int:
+    nexts = (year + 1, 1) if month == 12 else (year, month + 1)
+    return days_before(*nexts, 1) - days_before(year, month, 1)
+
+
+EPOCH = days_before(1970, 1, 1)
+
+
+def read_moment(text: str) -> Optional[Moment]:
+    parts = WHEN.fullmatch(text)
+    if parts is None:
+        return None
+    year, month, day, hour, minute, second = (int(part or 0) for part in parts.groups()[:6])
+    hours, minutes = int(parts[9] or 0), int(parts[10] or 0)
+    if not 1 <= month <= 12 or not 1 <= day <= days_in(year, month):
+        return None
+    if hour > 23 or minute > 59 or second > 59 or hours > 23 or minutes > 59:
+        return None
+    ahead = (hours * 3600 + minutes * 60) * (-1 if parts[8] == "-" else 1)
+    since = days_before(year, month, day) * 86400 + hour * 3600 + minute * 60 + second - ahead
+    if not 0 <= since < days_before(10000, 1, 1) * 86400:
+        return None
+    return Moment(since - EPOCH * 86400, int((parts[7] or "").ljust(9, "0")))
+
+
+def moment_text(moment: Moment) -> str:
+    days, rest = divmod(moment.seconds + EPOCH * 86400, 86400)
+    year = next(y for y in range(days // 366, 10000) if days < days_before(y + 1, 1, 1))
+    month = next(m for m in range(12, 0, -1) if days_before(year, m, 1) <= days)
+    day = days - days_before(year, month, 1) + 1
+    fraction = f".{moment.nanoseconds:09}".rstrip("0") if moment.nanoseconds else ""
+    clock = f"{rest // 3600:02}:{rest // 60 % 60:02}:{rest % 60:02}"
+    return f"{year:04}-{month:02}-{day:02}T{clock}{fraction}Z"
+
+
+def read_posting(kind: str, text: str) -> Optional[Posting]:
+    """What a text reads as, where it reads as a value of the kind."""
+    key: Union[int, bytes, Moment, None] = None
+    if kind in ("string", "default"):
+        key = text.encode()
+    elif kind == "int" and re.fullmatch(r"[-+]?[0-9]+", text):
+        number = int(text)
+        key = number if -(2**63) <= number < 2**63 else None
+    elif kind == "bool":
+        key = {"false": 0, "true": 1}.get(text)
+    elif kind == "dateTime":
+        key = read_moment(text)
+    return None if key is None else Posting(RANKS[kind], key)
+
+
+def json_text(posting: Posting) -> str:
+    """A value as an answer shows it."""
+    value = posting.value()
+    return json.dumps(moment_text(value) if isinstance(value, Moment) else value, ensure_ascii=False)
+
+
+# ---------------------------------------------------------------------------------------------------
+# Tokens
+# ---------------------------------------------------------------------------------------------------
+
+
+class Token(NamedTuple):
+    """A token: its kind (a mark is its own kind), what it says, and its first byte."""
+
+    kind: str
+    says: str
+    offset: int
+
+
+NAME = re.compile(r"[A-Za-z_](?:[A-Za-z0-9_]|\.(?=[A-Za-z0-9_]))*")
+UID = re.compile(r"0x[0-9a-fA-F]{1,16}")
+FORMS = [
+    ("name", NAME),
+    ("blank", re.compile(r"_:[A-Za-z0-9_]+")),
+    ("int", re.compile(r"-?[0-9]+")),
+    ("uid", UID),
+    ("quoted", re.compile(r'"(?:[^"\\\n\r]|\\.)*"')),
+    ("iri", re.compile(r'<[^\0-\x20<>"{}|^`\\]+>')),
+    ("at", re.compile("@" + NAME.pattern)),
+    ("regex", re.compile(r"/(?:[^/\n\\]|\\[\s\S])+/i?")),
+    ("caret", re.compile(r"\^\^")),
+    ("mark", re.compile(r"[{}()\[\],:.~*]")),
+]
+BLANKS = re.compile(r"(?:[ \t\r\n]|#[^\n]*)*")
+ESCAPE = re.compile(r"\\(?:u([0-9a-fA-F]{4})|U([0-9a-fA-F]{8})|(.))")
+ESCAPED = dict(zip("tbnrf\"'\\/", "\t\b\n\r\f\"'\\/"))
+
+
+def unescape(text: str) -> Optional[str]:
+    """What stands between quotes, where each escape is one of the language."""
+    said, at = [], 0
+    for escape in ESCAPE.finditer(text):
+        code = int(escape[1] or escape[2] or "0", 16)
+        if escape[3] is not None and escape[3] not in ESCAPED:
+            return None
+        if code > 0x10FFFF or 0xD800 <= code <= 0xDFFF:
+            return None
+        said += [text[at : escape.start()], ESCAPED[escape[3]] if escape[3] else chr(code)]
+        at = escape.end()
+    return "".join(said) + text[at:]
+
+
+def spelled(kind: str, text: str) -> Optional[str]:
+    """What a text of the form of a kind says, where it is a token of that kind."""
+    if kind == "quoted":
+        return unescape(text[1:-1])
+    if kind == "uid":
+        return text if int(text, 16) else None
+    if kind in ("name", "blank", "at"):
+        said = {"name": text, "blank": text[2:], "at": text[1:]}[kind]
+        return said if len(said) <= LONGEST_NAME else None
+    return text[1:-1] if kind == "iri" else text
+
+
+def lex(text: str) -> tuple[list[Token], Optional[int]]:
+    """The tokens of a text up to a byte that begins none, if there is one."""
+    tokens: list[Token] = []
+    at = BLANKS.match(text).end()  # type: ignore[union-attr]
+    while at < len(text):
+        offset = len(text[:at].encode())
+        matched = [(match.end(), kind) for kind, form in FORMS if (match := form.match(text, at))]
+        ends = {end: kind for end, kind in matched if spelled(kind, text[at:end]) is not None}
+        longest = max(ends, default=at)
+        # A name or a node's name that is too long begins no token, rather than a shorter one.
+        if longest == at or longest < max(end for end, kind in matched if kind != "uid"):
+            return tokens, offset
+        kind = ends[longest]
+        said = spelled(kind, text[at:longest])
+        tokens.append(Token(said if kind == "mark" else kind, said, offset))  # type: ignore[arg-type]
+        at = BLANKS.match(text, longest).end()  # type: ignore[union-attr]
+    return tokens, None
+
+
+def text_of(body: bytes) -> str:
+    try:
+        return body.decode()
+    except UnicodeDecodeError as fault:
+        raise Refusal(3, "BadToken", fault.start) from None
+
+
+class Reader:
+    """Tokens that are read from the left; the end of the text is a token of its own."""
+
+    def __init__(self, tokens: list[Token], end: Token) -> None:
+        self.tokens = [*tokens, end]
+        self.at = 0
+
+    def next(self) -> Token:
+        return self.tokens[self.at]
+
+    def take(self) -> Token:
+        self.at += 1
+        return self.tokens[self.at - 1]
+
+    def refuse(self, token: Token) -> Refusal:
+        raise NotImplementedError
+
+    def want(self, kind: str) -> Token:
+        if self.next().kind != kind:
+            raise self.refuse(self.next())
+        return self.take()
+
+
+def is_whole(form: re.Pattern[str], text: str) -> bool:
+    return form.fullmatch(text) is not None and len(text) <= LONGEST_NAME
+
+
+# ---------------------------------------------------------------------------------------------------
+# The schema language
+# ---------------------------------------------------------------------------------------------------
+
+
+# The kind of each tokenizer.
+TOKENIZERS = {
+    **dict.fromkeys(("exact", "hash", "term", "trigram"), "string"),
+    **dict.fromkeys(("year", "month", "day", "hour"), "dateTime"),
+    "int": "int",
+    "bool": "bool",
+}
+# The tokenizer that an index without a list stands for.
+OWN_TOKENIZERS = {"int": "int", "bool": "bool", "dateTime": "year"}
+
+
+class Definition(NamedTuple):
+    kind: str
+    is_list: bool
+
+
+class SchemaReader(Reader):
+    """Reads definitions. Their directives are read and checked, and answer 98 where there is no fault."""
+
+    def __init__(self, text: str) -> None:
+        tokens, stop = lex(text)
+        end = Token("end", "", len(text.encode())) if stop is None else Token("none", "", stop)
+        super().__init__(tokens, end)
+        self.text = text.encode()
+
+    def refuse(self, token: Token) -> Refusal:
+        return Refusal(27, "SchemaSyntax", 1 + self.text[: token.offset].count(b"\n"))
+
+    def word_of(self, words: Iterable[str]) -> str:
+        word = self.want("name")
+        if word.says not in words:
+            raise self.refuse(word)
+        return word.says
+
+    def type(self) -> Definition:
+        if self.next().kind != "[":
+            return Definition(KINDS[self.word_of(KINDS)], False)
+        self.take()
+        kind = KINDS[self.word_of(KINDS)]
+        self.want("]")
+        return Definition(kind, True)
+
+    def index(self, kind: str) -> list[str]:
+        """The tokenizers of an index, of which a string and what has none must name some."""
+        if self.next().kind != "(":
+            return [OWN_TOKENIZERS.get(kind, "")]
+        self.take()
+        found = [self.word_of(TOKENIZERS)]
+        while self.next().kind == ",":
+            self.take()
+            found.append(self.word_of(TOKENIZERS))
+        self.want(")")
+        return found
+
+    def directives(self, kind: str) -> tuple[list[str], bool]:
+        """The words of the directives, and whether they fit one another and the kind."""
+        words: list[str] = []
+        fit = True
+        while self.next().kind == "at":
+            word = self.take()
+            if word.says not in ("index", "reverse", "count", "upsert"):
+                raise self.refuse(word)
+            words.append(word.says)
+            if word.says == "index":
+                tokenizers = self.index(kind)
+                fit = fit and all(TOKENIZERS.get(one) == kind for one in tokenizers)
+                fit = fit and len(set(tokenizers)) == len(tokenizers)
+        fit = fit and len(set(words)) == len(words)
+        fit = fit and ("reverse" not in words or kind == "uid")
+        return words, fit and ("upsert" not in words or "index" in words)
+
+    def read(self) -> dict[str, Definition]:
+        found: dict[str, Definition] = {}
+        built = True
+        while self.next().kind != "end":
+            name = self.take()
+            if name.kind not in ("name", "iri") or not is_whole(NAME, name.says):
+                raise self.refuse(name)
+            self.want(":")
+            definition = self.type()
+            words, fit = self.directives(definition.kind)
+            self.want(".")
+            if name.says in RESERVED or name.says in found or not fit:
+                raise self.refuse(name)
+            found[name.says] = definition
+            built = built and not words
+        if not built:
+            raise Refusal(98, "Unbuilt")
+        return found
+
+
+# ---------------------------------------------------------------------------------------------------
+# The language of mutations
+# ---------------------------------------------------------------------------------------------------
+
+TYPES = {
+    prefix + word: kind
+    for prefix in ("xs:", "http://www.w3.org/2001/XMLSchema#")
+    for word, kind in {
+        "string": "string",
+        "int": "int",
+        "integer": "int",
+        "boolean": "bool",
+        "dateTime": "dateTime",
+        "date": "dateTime",
+    }.items()
+}
+
+
+class Node(NamedTuple):
+    """A node by its number, or a new one by its name."""
+
+    uid: int
+    name: str = ""
+
+
+class Literal(NamedTuple):
+    text: str
+    kind: Optional[str]
+
+
+class Statement(NamedTuple):
+    """A triple that is set or deleted; None as the object stands for each that there is."""
+
+    deletes: bool
+    subject: Node
+    predicate: str
+    object: Union[Node, Literal, None]
+
+
+class MutationReader(Reader):
+    """Reads the body of a mutation."""
+
+    def __init__(self, text: str) -> None:
+        tokens, stop = lex(text)
+        if stop is not None:
+            raise Refusal(3, "BadToken", stop)
+        super().__init__(tokens, Token("end", "", len(text.encode())))
+
+    def refuse(self, token: Token) -> Refusal:
+        return Refusal(4, "BadSyntax", token.offset)
+
+    def variable(self) -> Refusal:
+        """The fault at `uid` or `val`, whose bracket makes it a variable of an upsert block."""
+        word = self.take()
+        return self.refuse(word if self.next().kind == "(" else self.next())
+
+    def node(self, deletes: bool) -> Node:
+        token = self.next()
+        if token.kind == "name" and token.says == "uid":
+            raise self.variable()
+        if token.kind == "iri" and UID.fullmatch(token.says) and int(token.says, 16):
+            return Node(int(self.take().says, 16))
+        if token.kind == "blank" and not deletes:
+            return Node(0, self.take().says)
+        raise self.refuse(token)
+
+    def predicate(self) -> str:
+        token = self.next()
+        if token.kind not in ("name", "iri") or not is_whole(NAME, token.says):
+            raise self.refuse(token)
+        return self.take().says
+
+    def literal(self) -> Literal:
+        text, kind = self.take().says, None
+        if self.next().kind == "caret":
+            self.take()
+            if self.next().kind != "iri" or self.next().says not in TYPES:
+                raise self.refuse(self.next())
+            kind = TYPES[self.take().says]
+        return Literal(text, kind)
+
+    def object(self, deletes: bool) -> Union[Node, Literal, None]:
+        token = self.next()
+        if token.kind == "name" and token.says == "val":
+            raise self.variable()
+        if token.kind == "*" and deletes:
+            self.take()
+            return None
+        return self.literal() if token.kind == "quoted" else self.node(deletes)
+
+    def statement(self, deletes: bool) -> Statement:
+        read = Statement(deletes, self.node(deletes), self.predicate(), self.object(deletes))
+        if self.next().kind in ("iri", "blank", "quoted"):
+            self.take()
+        self.want(".")
+        return read
+
+    def group(self) -> Iterator[Statement]:
+        word = self.next()
+        if word.kind != "name" or word.says not in ("set", "delete"):
+            raise self.refuse(word)
+        self.take()
+        self.want("{")
+        while self.next().kind != "}":
+            yield self.statement(word.says == "delete")
+        self.take()
+
+    def read(self) -> list[Statement]:
+        read: list[Statement] = []
+        if self.next().kind != "{":
+            while self.next().kind != "end":
+                read.append(self.statement(False))
+            return read
+        self.take()
+        while self.next().kind != "}":
+            read.extend(self.group())
+        self.take()
+        self.want("end")
+        return read
+
+
+# ---------------------------------------------------------------------------------------------------
+# The machine
+# ---------------------------------------------------------------------------------------------------
+
+
+class Change(NamedTuple):
+    deletes: bool
+    subject: int
+    predicate: str
+    object: Posting
+    is_list: bool
+
+    def key(self) -> ConflictKey:
+        return ConflictKey(self.predicate, self.subject, (self.object,) if self.is_list else ())
+
+
+class ConflictKey(NamedTuple):
+    """What two commits must not both name: an object of a list, or the one object of a subject."""
+
+    predicate: str
+    subject: int
+    object: tuple[Posting, ...]
+
+    def text(self) -> str:
+        shown = [hex(posting.key) if posting.rank == NODE else json_text(posting) for posting in self.object]
+        return " ".join(["data", self.predicate, hex(self.subject), *shown])
+
+
+Graph = dict[tuple[str, int], frozenset[Posting]]
+
+
+def apply(graph: Graph, changes: list[Change]) -> None:
+    for change in changes:
+        place = (change.predicate, change.subject)
+        there = graph.get(place, frozenset())
+        if change.deletes:
+            graph[place] = there - {change.object}
+        else:
+            graph[place] = (there if change.is_list else frozenset()) | {change.object}
+
+
+@dataclass
+class Session:
+    start: int
+    changes: list[Change] = field(default_factory=list)
+
+
+QUERY = re.compile(rb"\{ q\(func: uid\(0x([0-9a-fA-F]{1,16})\)\) \{ ([A-Za-z0-9_.]+) \} \}")
+
+
+def asked(body: bytes) -> Optional[tuple[str, int]]:
+    """The predicate and the node that a query of the form that is built asks for."""
+    parts = QUERY.fullmatch(body)
+    if parts is None:
+        return None
+    name, node = parts[2].decode(), int(parts[1], 16)
+    return (name, node) if node and is_whole(NAME, name) and name not in RESERVED else None
+
+
+class PlainMachine:
+    """The committed changes in their order, the schema, the open sessions and the two counters."""
+
+    def __init__(self) -> None:
+        self.timestamp = 1
+        self.uid = 1
+        self.schema: dict[str, Definition] = {}
+        self.commits: list[tuple[int, list[Change]]] = []
+        self.sessions: dict[int, Session] = {}
+
+    def answer(self, verb: str, session: int, body: bytes) -> bytes:
+        """The reply to a request; `session` is 0 for a verb that takes none."""
+        try:
+            if verb == "alter":
+                return self.alter(body)
+            if verb == "begin":
+                return self.begin(session)
+            if verb not in ("mutate", "query", "commit", "discard") or verb == "query" and asked(body) is None:
+                raise Refusal(98, "Unbuilt")
+            if session not in self.sessions:
+                raise Refusal(1, "NoSession", session)
+            return getattr(self, verb)(session, body)
+        except Refusal as refusal:
+            return refusal.line.encode() + b"\n"
+
+    def draw(self) -> int:
+        self.timestamp += 1
+        return self.timestamp - 1
+
+    def graph_at(self, start: int) -> Graph:
+        graph: Graph = {}
+        for timestamp, changes in self.commits:
+            if timestamp <= start:
+                apply(graph, changes)
+        return graph
+
+    def view(self, session: Session) -> Graph:
+        graph = self.graph_at(session.start)
+        apply(graph, session.changes)
+        return graph
+
+    def alter(self, body: bytes) -> bytes:
+        newer = SchemaReader(text_of(body)).read()
+        if self.sessions:
+            raise Refusal(20, "Pending", min(session.start for session in self.sessions.values()))
+        held = {predicate for (predicate, _), objects in self.graph_at(self.timestamp).items() if objects}
+        for name, definition in newer.items():
+            if name in held and self.schema[name] != definition:
+                raise Refusal(22, "HasData", name)
+        self.schema.update(newer)
+        return b"ok alter %d %d\n" % (self.draw(), self.draw())
+
+    def begin(self, number: int) -> bytes:
+        if number in self.sessions:
+            raise Refusal(2, "SessionOpen", number)
+        self.sessions[number] = Session(self.draw())
+        return b"ok begin %d %d\n" % (number, self.sessions[number].start)
+
+    def discard(self, number: int, _: bytes) -> bytes:
+        del self.sessions[number]
+        return b"ok discard %d\n" % number
+
+    def commit(self, number: int, _: bytes) -> bytes:
+        session = self.sessions.pop(number)
+        if not session.changes:
+            return b"ok commit %d 0\n" % number
+        for key in sorted({change.key() for change in session.changes}):
+            later = [
+                timestamp
+                for timestamp, changes in self.commits
+                if timestamp > session.start and any(change.key() == key for change in changes)
+            ]
+            if later:
+                raise Refusal(19, "Conflict", max(later), key.text())
+        timestamp = self.draw()
+        self.commits.append((timestamp, session.changes))
+        return b"ok commit %d %d\n" % (number, timestamp)
+
+    def resolved(self, statement: Statement) -> Union[Node, Posting, None]:
+        """The object of a statement under the schema."""
+        name, said = statement.predicate, statement.object
+        if name not in self.schema:
+            raise Refusal(13, "NoPredicate", name)
+        kind = self.schema[name].kind
+        if said is None:
+            return None
+        if isinstance(said, Node) != (kind == "uid"):
+            raise Refusal(14, "WrongObject", name)
+        if isinstance(said, Node):
+            return said
+        value = read_posting(kind, said.text)
+        if value is None or (said.kind is not None and read_posting(said.kind, said.text) is None):
+            raise Refusal(10, "BadLiteral", name)
+        return value
+
+    def numbered(self, nodes: list[Node]) -> tuple[int, dict[str, int]]:
+        """The next uid after these nodes are leased, and the numbers of the new ones."""
+        if not nodes:
+            return self.uid, {}
+        names = list(dict.fromkeys(node.name for node in nodes if node.name))
+        first = max(self.uid, max(node.uid for node in nodes) + 1)
+        if first + len(names) > LAST_UID + 1:
+            raise Refusal(15, "UidsSpent", hex(self.uid))
+        return first + len(names), {name: first + place for place, name in enumerate(names)}
+
+    def mutate(self, number: int, body: bytes) -> bytes:
+        session = self.sessions[number]
+        statements = MutationReader(text_of(body)).read()
+        objects = [self.resolved(statement) for statement in statements]
+        nodes = [
+            node
+            for statement, said in zip(statements, objects)
+            for node in (statement.subject, said)
+            if isinstance(node, Node)
+        ]
+        next_uid, numbers = self.numbered(nodes)
+        view = self.view(session)
+        for statement, said in zip(statements, objects):
+            subject = numbers.get(statement.subject.name, statement.subject.uid)
+            place = (statement.predicate, subject)
+            if said is None:
+                each = sorted(view.get(place, frozenset()))
+            elif isinstance(said, Node):
+                each = [Posting(NODE, numbers.get(said.name, said.uid))]
+            else:
+                each = [said]
+            is_list = self.schema[statement.predicate].is_list
+            session.changes += [Change(statement.deletes, subject, place[0], one, is_list) for one in each]
+        self.uid = next_uid
+        uids = ",".join(f'"{name}":"{hex(uid)}"' for name, uid in sorted(numbers.items()))
+        return with_body("mutate", number, f'{{"uids":{{{uids}}}}}')
+
+    def query(self, number: int, body: bytes) -> bytes:
+        place = asked(body)
+        assert place is not None
+        name, _ = place
+        objects = self.view(self.sessions[number]).get(place, frozenset())
+        shown = [json_text(posting) for posting in sorted(objects) if posting.rank != NODE]
+        node = ""
+        if shown:
+            text = f"[{','.join(shown)}]" if self.schema[name].is_list else shown[0]
+            node = f'{{"{name}":{text}}}'
+        answer = f'{{"data":{{"q":[{node}]}}}}'
+        if len(answer.encode()) > LONGEST_ANSWER:
+            raise Refusal(17, "AnswerTooLarge")
+        return with_body("query", number, answer)
+
+
+def with_body(verb: str, number: int, text: str) -> bytes:
+    body = text.encode()
+    return b"ok %s %d %d\n%s\n" % (verb.encode(), number, len(body), body)
+
+
+# ---------------------------------------------------------------------------------------------------
+# Scripts
+# ---------------------------------------------------------------------------------------------------
+
+LONGEST_HEADER = 128
+LONGEST_BODY = 1_048_576
+SMALL = re.compile(r"[1-9]|1[0-6]")
+LENGTH = re.compile(r"0|[1-9][0-9]*")
+VERBS = {
+    **dict.fromkeys(("line", "state"), []),
+    **dict.fromkeys(("begin", "commit", "discard"), [SMALL]),
+    **dict.fromkeys(("mutate", "upsert", "query"), [SMALL, LENGTH]),
+    **dict.fromkeys(("roll", "rollplan", "rollinstall", "movecopy", "movehold", "moveflip", "moveoff"), [NAME]),
+    "alter": [LENGTH],
+    "movestart": [NAME, SMALL],
+}
+
+
+class Request(NamedTuple):
+    verb: str
+    session: int
+    body: bytes
+
+
+def frame_at(script: bytes, at: int) -> Optional[tuple[Request, int]]:
+    """The request of the frame that begins at a byte and stands there whole, and where it ends."""
+    end = script.find(b"\n", at, at + LONGEST_HEADER)
+    verb, *words = script[at : max(at, end)].decode("latin-1").split(" ")
+    forms = VERBS.get(verb)
+    if end < 0 or forms is None or len(words) != len(forms):
+        return None
+    if not all(is_whole(form, word) for form, word in zip(forms, words)):
+        return None
+    session = int(words[0]) if forms[:1] == [SMALL] else 0
+    if LENGTH not in forms:
+        return Request(verb, session, b""), end + 1
+    length = int(words[-1])
+    stop = end + 1 + length
+    if length > LONGEST_BODY or script[stop : stop + 1] != b"\n":
+        return None
+    return Request(verb, session, script[end + 1 : stop]), stop + 1
+
+
+class Run(NamedTuple):
+    """The requests of a script, their replies, and the byte at which no frame stands whole."""
+
+    requests: list[Request]
+    replies: list[bytes]
+    fault: Optional[int]
+
+
+def run(script: bytes) -> Run:
+    """What `dgraph run` does with a script of at most 64 MiB."""
+    machine = PlainMachine()
+    done = Run([], [], None)
+    at = 0
+    while at < len(script):
+        frame = frame_at(script, at)
+        if frame is None:
+            return done._replace(fault=at)
+        request, at = frame
+        done.requests.append(request)
+        done.replies.append(machine.answer(*request))
+    return done
+
+
+def main() -> int:
+    done = run(sys.stdin.buffer.read())
+    sys.stdout.buffer.write(b"".join(done.replies))
+    if done.fault is None:
+        return 0
+    print(f"dgraph: bad frame at {done.fault}", file=sys.stderr)
+    return 4
+
+
+if __name__ == "__main__":
+    sys.exit(main())

@@ -1,0 +1,224 @@
+#!/usr/bin/env python3
+"""Scripts drawn at random, and the program compared with the plain machine over them.
+
+    random_scripts.py compare [--first N] [--scripts N] [--program PATH]
+    random_scripts.py print N
+
+`compare` runs the built program over so many scripts, each drawn from its number, and ends with 1
+where the program does otherwise than `plain_machine.py`; it shows the request and both replies. `print`
+writes one of them. Most requests are sound; some statements have a fault, and some bodies and scripts
+a byte more, less or in the place of another. It needs Python 3.9 or later.
+"""
+
+from __future__ import annotations
+
+import argparse
+import random
+import subprocess
+import sys
+from collections import Counter
+from collections.abc import Iterator
+from pathlib import Path
+
+import plain_machine as plain
+
+PROGRAM = Path(__file__).resolve().parent.parent / "crates" / "dgraph" / "out" / "dgraph"
+
+SCHEMA = """
+name: string .
+note: default .
+age: int .
+ok: bool .
+born: dateTime .
+boss: uid .
+<friend>: [uid] .
+tags: [string] .
+nums: [int] .
+flags: [bool] .
+days: [datetime] .
+"""
+PREDICATES = "name note age ok born boss friend tags nums flags days".split()
+NODES = [1, 2, 3, 4, 5, 9, 0xFF, 0xABC]
+ODD_NODES = [
+    *("<0x0>", "<1>", "<0X1>", "<0x0000000000000001>", "<0x00000000000000000>", "<0x12345678901234567>"),
+    *("<0xffffffffffffffff>", "<0x3fffffffffffffff>", "<0x4000000000000000>", "uid(v)", "uid", "_:"),
+    *("_:" + "a" * 64, "_:" + "a" * 65, "_:a.b"),
+]
+ODD_PREDICATES = ["nick", "uid", "set", "val", "<a b>", "<0x1>", "x.y", "x.", "n" * 64, "n" * 65]
+TEXTS = ["Ann", "Bob", "", "a\\nb", 'q\\"x', "\\u00e9", "\\U0001F600", "tab\\t", "\\u0001", "\\/", "é", "\\b\\f\\r"]
+NUMBERS = ["12", "-3", "+7", "007", "1", "0", "-0", "9223372036854775807", "-9223372036854775808"]
+MOMENTS = [
+    *("2020-02-29", "1993-05-19", "0000-01-01", "1993-05-19T10:20:30Z", "1993-05-19t10:20:30.50+01:30"),
+    *("1993-05-19T08:50:30.5z", "9999-12-31T23:59:59.999999999Z", "1900-03-01T00:00:00"),
+]
+NO_VALUES = [
+    *("9223372036854775808", "True", "2021-02-29", "1900-02-29", "2020-13-01", "2020-01-01T24:00:00"),
+    *("2020-01-01T00:00:60Z", "0000-01-01T00:00:00+00:01", "9999-12-31T23:59:59-00:01", "\\q", "\\ud800", "x\\"),
+]
+VALUES = {"age": NUMBERS, "nums": NUMBERS, "ok": ["true", "false"], "flags": ["true", "false"]}
+VALUES |= {"born": MOMENTS, "days": MOMENTS, "name": TEXTS, "note": TEXTS, "tags": TEXTS}
+TYPES = ["xs:string", "xs:int", "xs:integer", "xs:boolean", "xs:dateTime", "xs:date", "xs:float", "string"]
+TYPES.append("http://www.w3.org/2001/XMLSchema#int")
+KINDS = "default string int bool dateTime datetime uid".split()
+UNBUILT = ["line", "state", "roll name", "rollplan x.y", "movestart name 2", "moveoff friend"]
+DIRECTIVES = ["@index", "@reverse", "@count", "@upsert", "@index(exact)", "@index(term, trigram)", "@index(int)"]
+DIRECTIVES += ["@index(year, year)", "@index(bool,)", "@lang"]
+BYTES = "{}()[],:.~*\"'<>@/^#\\ \n_a0!-é"
+
+
+class Draw(random.Random):
+    """Random parts of requests."""
+
+    def one_in(self, most: float) -> bool:
+        return self.random() * most < 1
+
+    def node(self, deletes: bool) -> str:
+        if self.one_in(30):
+            return self.choice(ODD_NODES)
+        if self.one_in(3) and not deletes or self.one_in(40):
+            return "_:" + self.choice(["a", "b", "c", "zz", "B1", "_x"])
+        return f"<{hex(self.choice(NODES))}>"
+
+    def literal(self, predicate: str) -> str:
+        texts = VALUES.get(predicate, TEXTS)
+        if self.one_in(15):
+            texts = self.choice([*VALUES.values(), NO_VALUES])
+        text = f'"{self.choice(texts)}"'
+        return f"{text}{self.choice(['^^', '^^ '])}<{self.choice(TYPES)}>" if self.one_in(8) else text
+
+    def object(self, predicate: str, deletes: bool) -> str:
+        if deletes and self.one_in(3):
+            return "*"
+        if self.one_in(60):
+            return self.choice([self.node(deletes), self.literal(predicate), "*", "val(x)", "val", "12", "0x1"])
+        return self.node(deletes) if predicate in ("boss", "friend") else self.literal(predicate)
+
+    def statement(self, predicates: list[str], deletes: bool) -> str:
+        predicate = self.choice(ODD_PREDICATES if self.one_in(60) else predicates)
+        said = f"<{predicate}>" if self.one_in(2) and predicate[0] != "<" else predicate
+        label = self.choice([" <label>", " _:lab", ' "lab"']) if self.one_in(4) else ""
+        triple = f"{self.node(deletes)} {said} {self.object(predicate, deletes)}"
+        return f"{triple}{label}{self.choice([' ', '', chr(10), ' # ' + chr(10)])}."
+
+    def mutation(self) -> str:
+        predicates = [self.choice(PREDICATES)] if self.one_in(3) else PREDICATES
+        if self.one_in(2):
+            return "\n".join(self.statement(predicates, False) for _ in range(self.choice([0, 1, 1, 2, 5])))
+        groups = []
+        for _ in range(self.choice([0, 1, 1, 2, 3])):
+            deletes = self.one_in(2)
+            lines = [self.statement(predicates, deletes) for _ in range(self.choice([0, 1, 2]))]
+            groups.append(f"{'delete' if deletes else 'set'} {{ {' '.join(lines)} }}")
+        return f"{{ {' '.join(groups)} }}"
+
+    def definition(self) -> str:
+        name = self.choice([*PREDICATES, *PREDICATES, "extra", "<x.y>", "uid", "n" * 64, "n" * 65])
+        kind = self.choice(KINDS)
+        words = [self.choice(DIRECTIVES) for _ in range(self.choice([1, 1, 2, 3]))] if self.one_in(4) else []
+        return " ".join([f"{name}:", f"[{kind}]" if self.one_in(2) else kind, *words, "."])
+
+    def schema(self) -> str:
+        return "\n".join(self.definition() for _ in range(self.choice([1, 1, 2, 3])))
+
+    def query(self) -> str:
+        return f"{{ q(func: uid({hex(self.choice([*NODES, 0xABD, 6]))})) {{ {self.choice([*PREDICATES, 'nick'])} }} }}"
+
+    def marred(self, text: str) -> bytes:
+        """The text, or now and then one that differs in one place."""
+        if self.one_in(12) and text:
+            at = self.randrange(len(text))
+            text = text[:at] + self.choice(["", self.choice(BYTES)]) + text[at + self.choice([0, 1]) :]
+        body = text.encode()
+        if self.one_in(80):
+            at = self.randrange(len(body) + 1)
+            body = body[:at] + bytes([self.choice([0x80, 0xFF, 0xC3])]) + body[at:]
+        return body
+
+    def marred_script(self, text: bytes) -> bytes:
+        """The script, or now and then one that has a fault or ends early."""
+        if not self.one_in(5):
+            return text
+        at = self.randrange(len(text))
+        if self.one_in(4):
+            return text[:at]
+        new = bytes([self.choice(b"0123456789 \n a-")]) if self.one_in(2) else b""
+        return text[:at] + new + text[at + self.choice([0, 1]) :]
+
+
+def frame(header: str, body: bytes) -> bytes:
+    return b"%s %d\n%s\n" % (header.encode(), len(body), body)
+
+
+def frames(draw: Draw) -> Iterator[bytes]:
+    yield frame("alter", SCHEMA.encode())
+    sessions = draw.choice([[1], [1, 2], [1, 2, 16]])
+    begun: set[int] = set()
+    for _ in range(draw.choice([20, 60, 120])):
+        session = draw.choice(sessions)
+        verbs, weights = ["begin", "alter", "mutate", "query", "commit", "discard"], [1, 2, 14, 12, 4, 1]
+        verb = draw.choices(verbs, weights)[0]
+        if session not in begun and not draw.one_in(12) and verb != "alter":
+            verb = "begin"
+        if verb == "mutate":
+            yield frame(f"mutate {session}", draw.marred(draw.mutation()))
+        elif verb == "query":
+            yield frame(f"query {session}", draw.marred(draw.query()))
+        elif verb == "alter":
+            yield frame("alter", draw.marred(draw.schema()))
+        else:
+            begun = begun | {session} if verb == "begin" else begun - {session}
+            yield f"{verb} {session}\n".encode()
+        if draw.one_in(100):
+            yield draw.choice(UNBUILT).encode() + b"\n"
+
+
+def script(number: int) -> bytes:
+    """The script with a number."""
+    draw = Draw(number)
+    return draw.marred_script(b"".join(frames(draw)))
+
+
+def is_alike(program: Path, number: int, seen: Counter[str]) -> bool:
+    """Whether the program does with a script what the plain machine does; what it doesn't is shown."""
+    text = script(number)
+    wanted = plain.run(text)
+    ended = subprocess.run([program, "run"], input=text, capture_output=True, check=False)
+    seen.update(b" ".join(reply.split(maxsplit=2)[:2]).decode() for reply in wanted.replies)
+    status, said = 0, b""
+    if wanted.fault is not None:
+        status, said = 4, b"dgraph: bad frame at %d\n" % wanted.fault
+        seen["bad frame"] += 1
+    if (ended.stdout, ended.stderr, ended.returncode) == (b"".join(wanted.replies), said, status):
+        return True
+    print(f"script {number}: the program ended with {ended.returncode} {ended.stderr!r}; {status} {said!r} is wanted")
+    at = 0
+    for request, reply in zip(wanted.requests, wanted.replies):
+        if not ended.stdout.startswith(reply, at):
+            print(request, "wants", reply, "and was answered", ended.stdout[at : at + 200], sep="\n    ")
+            break
+        at += len(reply)
+    return False
+
+
+def main() -> int:
+    words = argparse.ArgumentParser(description=__doc__, formatter_class=argparse.RawDescriptionHelpFormatter)
+    commands = words.add_subparsers(dest="command", required=True)
+    compare = commands.add_parser("compare")
+    compare.add_argument("--first", type=int, default=0)
+    compare.add_argument("--scripts", type=int, default=400)
+    compare.add_argument("--program", type=Path, default=PROGRAM)
+    commands.add_parser("print").add_argument("number", type=int)
+    asked = words.parse_args()
+    if asked.command == "print":
+        sys.stdout.buffer.write(script(asked.number))
+        return 0
+    seen: Counter[str] = Counter()
+    numbers = range(asked.first, asked.first + asked.scripts)
+    different = sum(not is_alike(asked.program, number, seen) for number in numbers)
+    print(", ".join(f"{count} {reply}" for reply, count in sorted(seen.items())))
+    print(f"random scripts: {asked.scripts - different} alike, {different} different")
+    return 1 if different else 0
+
+
+if __name__ == "__main__":
+    sys.exit(main())
