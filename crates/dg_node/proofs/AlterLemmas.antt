@@ -20,13 +20,18 @@ use Rattle.dg_keys.specs.Keys.{pred_of}
 use Rattle.dg_edges.specs.Deltas.{IsPlain, IsPlainDefinition}
 use Rattle.dg_oracle.specs.Commits as oracle
 use Rattle.dg_zero.specs.Listings.{listing, listing_by}
-use Rattle.dg_zero.specs.States.{Zero, AreAlterParts, IsLeastStart}
+use Rattle.dg_zero.specs.declared.place.Phase.TheVariants.{Idle}
+use Rattle.dg_zero.specs.declared.place.Place.{Place}
+use Rattle.dg_zero.specs.Places.{is_held}
+use Rattle.dg_zero.specs.States.{Zero, AreAlterParts, IsLeastStart, first_held}
 use Rattle.dg_zero.specs.Legal.{KeepsKind, kind_rank}
 use Rattle.dg_zero.specs.Counters.{active, starts_of, line}
 use Rattle.dg_zero.specs.Worlds.{World, world, world_at, schema}
+use Rattle.dg_zero.proofs.AlterKeeps.{none_first_held}
 use Rattle.dg_zero.proofs.EmptyOffers.{no_changes}
 use Rattle.dg_zero.proofs.LawfulGraphs.{present_lawful}
 use Rattle.dg_zero.proofs.LawsOfHistories.{line_stays_below, present_is_last}
+use Rattle.dg_zero.proofs.Refusals.{not_held}
 use Rattle.dg_node.specs.declared.engine.Opened.{Opened}
 use Rattle.dg_node.specs.Alters.{has_directive, is_other_kind, has_data, first_with_data, present_schema, present_graph, least_start}
 use Rattle.dg_node.specs.Kept.{IsKept}
@@ -218,3 +223,12 @@ same_data z os m newer k s = λ i. first_with_data (present_schema_is z os m k s
 -- no transaction is open
 pub none_least : (z : Zero) (os : List Opened) (m : Machine) → IsKept z os → StandFor z os m → active z.history ≡ [] → least_start m.sessions ≡ None
 none_least z os m k s none = ap least_start (s.sessions_are ∙ ap (λ (l : List Opened). map session_from l) (none_open z os k none))
+
+-- ---- where every tablet is at rest, no definition's is held
+
+pub held_nowhere : (ts : List Place) (newer : List PredDef) → AllByRecursion (λ (t : Place). t.phase ≡ Idle) ts → first_held ts newer ≡ None
+held_nowhere ts newer idle = none_first_held ts newer (each newer)
+  where
+    each : (ds : List PredDef) → AllByRecursion (λ (d : PredDef). is_held ts d.name ≡ false) ds
+    each [] = tt
+    each (d ∷ ds) = (not_held ts d.name idle, each ds)

@@ -74,7 +74,7 @@ impl Engine {
     }
 
     // Draws two timestamps, and adds or replaces the definitions from the second on. No transaction is active and no tablet
-    // is held, so what else Zero may want is memory.
+    // is held, so nothing else refuses it than spent timestamps and want of memory.
     fn declare(&mut self, alloc: Global, newer: &Schema) -> Mem<Reply>
         requires distinct { AreDistinct newer.now }
         requires plain { list_any has_directive newer.now ≡ false }
@@ -89,7 +89,18 @@ impl Engine {
             Err(ZeroFault::TimestampsSpent { next }) => {
                 Ok(Reply::Refused(Refusal::TimestampsSpent { next }))
             }
-            Err(_) => Err(OutOfMemory),
+            Err(ZeroFault::OutOfMemory) => Err(OutOfMemory),
+            Err(ZeroFault::Pending { .. }) => unreachable!(),
+            Err(ZeroFault::Moving { .. }) => unreachable!(),
+            Err(
+                ZeroFault::UidsSpent { .. }
+                | ZeroFault::NoGroup { .. }
+                | ZeroFault::SameGroup { .. }
+                | ZeroFault::AlreadyMoving
+                | ZeroFault::OldCopy { .. }
+                | ZeroFault::NotMoving { .. }
+                | ZeroFault::NoPredicate,
+            ) => unreachable!(),
         }
     }
 }

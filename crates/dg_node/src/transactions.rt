@@ -53,7 +53,18 @@ impl Engine {
             Err(ZeroFault::TimestampsSpent { next }) => {
                 Ok(Reply::Refused(Refusal::TimestampsSpent { next }))
             }
-            Err(_) => Err(OutOfMemory),
+            Err(ZeroFault::OutOfMemory) => Err(OutOfMemory),
+            Err(
+                ZeroFault::UidsSpent { .. }
+                | ZeroFault::Pending { .. }
+                | ZeroFault::Moving { .. }
+                | ZeroFault::NoGroup { .. }
+                | ZeroFault::SameGroup { .. }
+                | ZeroFault::AlreadyMoving
+                | ZeroFault::OldCopy { .. }
+                | ZeroFault::NotMoving { .. }
+                | ZeroFault::NoPredicate,
+            ) => unreachable!(),
         }
     }
 

@@ -2,6 +2,7 @@ use Rattle.std.proofs.Common.{◌≡◌, ◌<◌, ◌^◌, ◌+◌, ℕ, List, [
 use Rattle.std.specs.Prelude.{◌++◌}
 use Rattle.dg_keys.specs.declared.record.Part.{Part}
 use Rattle.dg_zero.specs.Legal.{IsLegal}
+use Rattle.dg_zero.specs.Places.{tablets}
 use Rattle.dg_zero.specs.States.{Zero, and_then, alter_of, AreAlterParts}
 use Rattle.dg_zero.specs.Worlds.{schema, world}
 use Rattle.dg_node.specs.Alters.{first_with_data}
@@ -9,7 +10,7 @@ use Rattle.dg_node.specs.Kept.{Held, IsKept}
 use Rattle.dg_node.specs.Machine.{Machine}
 use Rattle.dg_node.proofs.Standing.{Stands, StandFor, from_all}
 use Rattle.dg_node.proofs.KeptLemmas.{altered_kept}
-use Rattle.dg_node.proofs.AlterLemmas.{plain_all, no_alter_parts, kinds_kept}
+use Rattle.dg_node.proofs.AlterLemmas.{plain_all, no_alter_parts, kinds_kept, held_nowhere}
 use Rattle.dg_node.proofs.StandLemmas.{stand_alter}
 use Rattle.dg_node.proofs.ReplyLemmas.{declared_is}
 use Rattle.dg_node.proofs.engine.Engine.declare.Goals as goal
@@ -46,3 +47,9 @@ returns-in-Ok-clause-ok c = from_all (λ m s.
     let ts : c.in-Ok.commit ≡ m.next + 1 = c.in-Ok.ensures.drawn.1 ∙ ap (λ (n : ℕ). n + 1) (sym stood.next_is) in
     let n : Machine = record { groups = m.groups; next = m.next + 2; next_uid = m.next_uid; alters = m.alters ++ (record { start = m.next; ts = m.next + 1; definitions = c.args.newer.now }) ∷ []; commits = m.commits; sessions = m.sessions } in
     (n, declared_is m c.args.newer.now c.in-Ok.start c.in-Ok.commit lt start ts, subst (λ (w : Zero). StandFor w os n) (sym is) (stand_alter z os m stood 0 c.args.newer.now c.new-2.result)))
+
+pub unreachable-requires-in-Err-Moving : goal.unreachable-requires-in-Err-Moving
+unreachable-requires-in-Err-Moving c =
+    let fault = rw c.in-Err-Moving.field-0-is at c.in-Err-Moving.ensures.fault in
+    let no = sym (held_nowhere (tablets c.self.inside.zero.history) c.args.newer.now c.self.invariant.idle) ∙ fault.1 in
+    cc no

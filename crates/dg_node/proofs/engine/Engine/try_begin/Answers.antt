@@ -74,7 +74,7 @@ returns-in-Err-TimestampsSpent-clause-ok c = from_all (λ m s.
       subst (λ (l : List Opened). StandFor c.begin.new.self l m) (sym c.reserve.ensures.items) (looked_stand z c.begin.new.self os m c.in_ok-slip.slip c.in-Err-TimestampsSpent.ensures.err stood),
     ))
 
-pub invariant_of-self-in-Err : goal.invariant_of-self-in-Err
-invariant_of-self-in-Err c =
+pub invariant_of-self-in-Err-OutOfMemory : goal.invariant_of-self-in-Err-OutOfMemory
+invariant_of-self-in-Err-OutOfMemory c =
     subst (IsKept c.begin.new.self) (sym c.reserve.ensures.items)
-    (looked_kept c.self.inside.zero c.begin.new.self c.self.inside.sessions.items c.in_ok-slip.slip c.self.invariant c.in-Err.ensures.err c.in-Err.ensures.legal)
+    (looked_kept c.self.inside.zero c.begin.new.self c.self.inside.sessions.items c.in_ok-slip.slip c.self.invariant c.in-Err-OutOfMemory.ensures.err c.in-Err-OutOfMemory.ensures.legal)
