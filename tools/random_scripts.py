@@ -7,7 +7,10 @@
 `compare` runs the built program over so many scripts, each drawn from its number, and ends with 1
 where the program does otherwise than `plain_machine.py`; it shows the request and both replies. `print`
 writes one of them. Most requests are sound; some statements have a fault, and some bodies and scripts
-a byte more, less or in the place of another. It needs Python 3.9 or later.
+a byte more, less or in the place of another. In a third of the scripts many sessions write a few nodes,
+so that many commits meet a conflict: of a hundred scripts or more, one reply in fifty has to be one, or
+`compare` ends with 1. Where no first number is given it follows from the day, so that no two days have
+the same scripts; the numbers are printed. It needs Python 3.9 or later.
 """
 
 from __future__ import annotations
@@ -16,12 +19,20 @@ import argparse
 import random
 import subprocess
 import sys
+import time
 from collections import Counter
 from collections.abc import Iterator
 from pathlib import Path
 
 import plain_machine as plain
 
+# How many seconds the program may take for a script.
+SECONDS = 60
+# One reply in so many has to be a conflict, where so many scripts are compared.
+ONE_CONFLICT_IN = 50
+ENOUGH = 100
+# Scripts of a day and of the next are so many numbers apart.
+A_DAY = 100_000
 PROGRAM = Path(__file__).resolve().parent.parent / "crates" / "dgraph" / "out" / "dgraph"
 
 SCHEMA = """
@@ -100,6 +111,15 @@ class Draw(random.Random):
         triple = f"{self.node(deletes)} {said} {self.object(predicate, deletes)}"
         return f"{triple}{label}{self.choice([' ', '', chr(10), ' # ' + chr(10)])}."
 
+    def change(self, predicates: list[str], nodes: list[int]) -> str:
+        """A statement without a fault, over these predicates and nodes."""
+        predicate = self.choice(predicates)
+        if predicate in ("boss", "friend"):
+            said = f"<{hex(self.choice(NODES))}>"
+        else:
+            said = f'"{self.choice(VALUES[predicate])}"'
+        return f"<{hex(self.choice(nodes))}> <{predicate}> {said} ."
+
     def mutation(self) -> str:
         predicates = [self.choice(PREDICATES)] if self.one_in(3) else PREDICATES
         if self.one_in(2):
@@ -149,6 +169,26 @@ def frame(header: str, body: bytes) -> bytes:
     return b"%s %d\n%s\n" % (header.encode(), len(body), body)
 
 
+def contended(draw: Draw) -> Iterator[bytes]:
+    """Rounds in which many sessions write a few nodes, and then end in another order."""
+    yield frame("alter", SCHEMA.encode())
+    sessions = list(range(1, draw.choice([4, 8, 16]) + 1))
+    predicates = draw.sample(PREDICATES, draw.choice([1, 2, 3]))
+    nodes = draw.sample(NODES, draw.choice([1, 2]))
+    for _ in range(draw.choice([2, 4])):
+        draw.shuffle(sessions)
+        yield from (b"begin %d\n" % session for session in sessions)
+        for session in sessions:
+            lines = [draw.change(predicates, nodes) for _ in range(draw.choice([1, 1, 2]))]
+            yield frame(f"mutate {session}", "\n".join(lines).encode())
+        draw.shuffle(sessions)
+        for session in sessions:
+            if draw.one_in(3):
+                asked = f"{{ q(func: uid({hex(draw.choice(nodes))})) {{ {draw.choice(predicates)} }} }}"
+                yield frame(f"query {session}", asked.encode())
+            yield f"{'discard' if draw.one_in(12) else 'commit'} {session}\n".encode()
+
+
 def frames(draw: Draw) -> Iterator[bytes]:
     yield frame("alter", SCHEMA.encode())
     sessions = draw.choice([[1], [1, 2], [1, 2, 16]])
@@ -175,49 +215,86 @@ def frames(draw: Draw) -> Iterator[bytes]:
 def script(number: int) -> bytes:
     """The script with a number."""
     draw = Draw(number)
-    return draw.marred_script(b"".join(frames(draw)))
+    return draw.marred_script(b"".join(contended(draw) if number % 3 == 0 else frames(draw)))
+
+
+def first_of_today() -> int:
+    """The number of the first script of the day."""
+    return int(time.time()) // 86_400 * A_DAY
+
+
+def ended_with(program: Path, text: bytes) -> tuple[bytes, bytes, object]:
+    """What the program writes, what it says, and its status."""
+    try:
+        ended = subprocess.run([program, "run"], input=text, capture_output=True, check=False, timeout=SECONDS)
+    except subprocess.TimeoutExpired as late:
+        return late.stdout or b"", late.stderr or b"", f"none after {SECONDS} seconds"
+    return ended.stdout, ended.stderr, ended.returncode
 
 
 def is_alike(program: Path, number: int, seen: Counter[str]) -> bool:
     """Whether the program does with a script what the plain machine does; what it doesn't is shown."""
     text = script(number)
     wanted = plain.run(text)
-    ended = subprocess.run([program, "run"], input=text, capture_output=True, check=False)
+    wrote, said, status = ended_with(program, text)
     seen.update(b" ".join(reply.split(maxsplit=2)[:2]).decode() for reply in wanted.replies)
-    status, said = 0, b""
+    end, message = 0, b""
     if wanted.fault is not None:
-        status, said = 4, b"dgraph: bad frame at %d\n" % wanted.fault
+        end, message = 4, b"dgraph: bad frame at %d\n" % wanted.fault
         seen["bad frame"] += 1
-    if (ended.stdout, ended.stderr, ended.returncode) == (b"".join(wanted.replies), said, status):
+    if (wrote, said, status) == (b"".join(wanted.replies), message, end):
         return True
-    print(f"script {number}: the program ended with {ended.returncode} {ended.stderr!r}; {status} {said!r} is wanted")
+    print(f"script {number}: the program ended with {status} {said!r}; {end} {message!r} is wanted")
     at = 0
     for request, reply in zip(wanted.requests, wanted.replies):
-        if not ended.stdout.startswith(reply, at):
-            print(request, "wants", reply, "and was answered", ended.stdout[at : at + 200], sep="\n    ")
+        if not wrote.startswith(reply, at):
+            print(request, "wants", reply, "and was answered", wrote[at : at + 200], sep="\n    ")
             break
         at += len(reply)
     return False
+
+
+def has_conflicts(seen: Counter[str]) -> bool:
+    """Whether as many replies are conflicts as have to be; it says how many are."""
+    replies = sum(count for reply, count in seen.items() if reply != "bad frame")
+    conflicts = seen["error 19"]
+    print(f"{replies} replies, of which {conflicts} are conflicts; one in {ONE_CONFLICT_IN} has to be")
+    return conflicts * ONE_CONFLICT_IN >= replies
+
+
+def positive(word: str) -> int:
+    """The number above 0 that a word says."""
+    number = int(word)
+    if number < 1:
+        raise argparse.ArgumentTypeError(f"expected a number of scripts above 0, found {word}")
+    return number
+
+
+def compare_all(program: Path, numbers: range) -> int:
+    """Compares the program with the plain machine over scripts, and answers the status to end with."""
+    print(f"random scripts {numbers[0]} to {numbers[-1]} (--first {numbers[0]} --scripts {len(numbers)})", flush=True)
+    seen: Counter[str] = Counter()
+    different = sum(not is_alike(program, number, seen) for number in numbers)
+    print(", ".join(f"{count} {reply}" for reply, count in sorted(seen.items())))
+    is_fair = has_conflicts(seen) or len(numbers) < ENOUGH
+    print(f"random scripts: {len(numbers) - different} alike, {different} different")
+    return 1 if different or not is_fair else 0
 
 
 def main() -> int:
     words = argparse.ArgumentParser(description=__doc__, formatter_class=argparse.RawDescriptionHelpFormatter)
     commands = words.add_subparsers(dest="command", required=True)
     compare = commands.add_parser("compare")
-    compare.add_argument("--first", type=int, default=0)
-    compare.add_argument("--scripts", type=int, default=400)
+    compare.add_argument("--first", type=int, default=None, help="the number of the first script, else by the day")
+    compare.add_argument("--scripts", type=positive, default=400)
     compare.add_argument("--program", type=Path, default=PROGRAM)
     commands.add_parser("print").add_argument("number", type=int)
     asked = words.parse_args()
     if asked.command == "print":
         sys.stdout.buffer.write(script(asked.number))
         return 0
-    seen: Counter[str] = Counter()
-    numbers = range(asked.first, asked.first + asked.scripts)
-    different = sum(not is_alike(asked.program, number, seen) for number in numbers)
-    print(", ".join(f"{count} {reply}" for reply, count in sorted(seen.items())))
-    print(f"random scripts: {asked.scripts - different} alike, {different} different")
-    return 1 if different else 0
+    first = first_of_today() if asked.first is None else asked.first
+    return compare_all(asked.program, range(first, first + asked.scripts))
 
 
 if __name__ == "__main__":

@@ -1,0 +1,72 @@
+"""What the shell says of itself and of requests."""
+
+from __future__ import annotations
+
+from .meanings import BUILT_FORMS, FORMS
+from .scripts import INDENT
+from .verbs import BUILT, UNBUILT, Verb
+
+WELCOME = (
+    "The data live in the memory of `dgraph run` alone, and are gone when this shell ends.",
+    "help says what can be typed, quit ends; \\save FILE keeps what was typed, as a script that `run` takes.",
+)
+HELP = """\
+Type a request: a verb and its arguments, in letters of any case. A body stands behind them, or in the lines below, with
+a blank line at its end. Ctrl-C forgets what is being typed; while a request runs it gives the prompt back, and the
+program goes on with the request.
+
+{requests}
+
+SID is a session from 1 to 16. Verbs that are read and answered 98 so far: {unbuilt}.
+
+    \\help VERB   shows the form of a verb's body, with an example
+    \\load FILE [--each N] [--skip]
+                 reads the statements of FILE (N-Quads), in transactions of N statements; after a statement that is
+                 refused it goes on with --skip, or where you say so
+    \\save FILE   keeps the requests that were typed as a script
+    \\table       shows answers as tables, or no longer
+    \\time        shows how long each reply took, or no longer
+    \\wait        waits for replies that are still to come, after a Ctrl-C
+    \\quit        ends, as quit, exit, \\q and the end of the input (Ctrl-D) do; it asks where work would be lost"""
+
+PURPOSES = {
+    "alter": "declares predicates, with a body of definitions",
+    "begin": "opens a transaction in the session SID",
+    "mutate": "sets and deletes triples, with a body of statements",
+    "query": "asks for one predicate of one node, with a body of that form",
+    "commit": "makes the transaction's changes seen, and ends it",
+    "discard": "forgets them, and ends it",
+}
+EXAMPLES = {
+    "alter": ["name: string .", "age: int .", "friend: [uid] .     # a list: any number of them"],
+    "mutate": [
+        '<0x1> <name> "Ann" .',
+        '_:bob <name> "Bob" .        # a new node; the reply has its number',
+        "<0x1> <friend> _:bob .",
+    ],
+    "query": ["{ q(func: uid(0x1)) { name } }"],
+}
+MORE = {
+    "mutate": ["deletes stand in a group:", INDENT + '{ set { <0x1> <name> "Anna" . } delete { <0x1> <friend> * . } }'],
+    "query": ["of a predicate of nodes nothing is shown yet"],
+}
+
+
+def help_lines() -> list[str]:
+    """What can be typed."""
+    width = max(len(verb.line) for verb in BUILT)
+    requests = "\n".join(f"{INDENT}{verb.line:<{width}}  {PURPOSES[verb.name]}" for verb in BUILT)
+    return HELP.format(requests=requests, unbuilt=", ".join(verb.name for verb in UNBUILT)).split("\n")
+
+
+def help_on(verb: Verb) -> list[str]:
+    """How a request with that verb is typed."""
+    if not verb.is_built:
+        return [verb.usage, f"{INDENT}it is read, and answered 98: the program can't do it yet"]
+    lines = [verb.usage, f"{INDENT}{PURPOSES[verb.name]}"]
+    if verb.name in FORMS:
+        lines.append(f"{INDENT}{BUILT_FORMS.get(verb.name, f'a statement is {FORMS[verb.name]}')}")
+        lines.append(f"{INDENT}as in")
+        lines.extend(INDENT * 2 + line for line in EXAMPLES[verb.name])
+    lines.extend(INDENT + line for line in MORE.get(verb.name, []))
+    return lines

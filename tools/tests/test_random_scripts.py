@@ -1,0 +1,124 @@
+"""Random scripts: what they reach, and that another reply or status is found."""
+
+from __future__ import annotations
+
+import io
+import subprocess
+import sys
+import unittest
+from collections import Counter
+from contextlib import redirect_stdout
+from unittest import mock
+
+import plain_machine as plain
+import random_scripts as scripts
+from tests.helpers import SECONDS, TOOLS, InFolder
+
+BUILT = {f"ok {verb}" for verb in ("alter", "begin", "mutate", "query", "commit", "discard")}
+REFUSED = {f"error {number}" for number in (1, 2, 3, 4, 10, 13, 14, 15, 19, 20, 22, 27, 98)}
+COMPARE = [sys.executable, "-B", TOOLS / "random_scripts.py", "compare"]
+
+# A program that writes what it was told, says it, and ends so, however long that takes.
+PROGRAM = """#!{python} -IS
+import sys, time
+sys.stdin.buffer.read()
+time.sleep({seconds})
+sys.stdout.buffer.write({wrote!r})
+sys.stderr.write({said!r})
+sys.exit({status})
+"""
+
+
+class Reach(unittest.TestCase):
+    """What the scripts reach."""
+
+    def test_they_reach_each_reply(self) -> None:
+        seen = set()
+        faults = 0
+        for number in range(200):
+            done = plain.run(scripts.script(number))
+            faults += done.fault is not None
+            for reply in done.replies:
+                seen.add(b" ".join(reply.split(maxsplit=2)[:2]).decode())
+        self.assertEqual(seen, BUILT | REFUSED)
+        self.assertGreater(faults, 5)
+
+    def test_one_reply_in_fifty_is_a_conflict(self) -> None:
+        for first in (0, 2_000_000_000):
+            seen: Counter[bytes] = Counter()
+            for number in range(first, first + scripts.ENOUGH):
+                seen.update(reply.split()[1] for reply in plain.run(scripts.script(number)).replies)
+            self.assertGreater(seen[b"19"] * scripts.ONE_CONFLICT_IN, sum(seen.values()), first)
+
+    def test_many_sessions_write_the_same_nodes(self) -> None:
+        done = plain.run(scripts.script(0))
+        writers = {request.session for request in done.requests if request.verb == "mutate"}
+        self.assertGreater(len(writers), 3)
+
+    def test_each_day_has_scripts_of_its_own(self) -> None:
+        firsts = []
+        for day in range(3):
+            with mock.patch("time.time", lambda seconds=86_400 * (20_000 + day) + 5: float(seconds)):
+                firsts.append(scripts.first_of_today())
+        self.assertEqual(firsts, [2_000_000_000, 2_000_100_000, 2_000_200_000])
+        self.assertNotEqual(scripts.script(firsts[0]), scripts.script(firsts[1]))
+
+
+class Compared(InFolder):
+    """Another reply, another status and other words are found, and a program that doesn't end."""
+
+    def compared(self, number: int, wrote: bytes, said: str = "", status: int = 0, seconds: float = 0.0) -> bool:
+        """Whether a program that does so is found to do as the plain machine."""
+        text = PROGRAM.format(python=sys.executable, wrote=wrote, said=said, status=status, seconds=seconds)
+        with redirect_stdout(io.StringIO()):
+            return scripts.is_alike(self.executable(text), number, Counter())
+
+    def test_what_differs_is_found(self) -> None:
+        number = next(number for number in range(100) if plain.run(scripts.script(number)).fault is None)
+        replies = plain.run(scripts.script(number)).replies
+        right = b"".join(replies)
+        for wrong in (replies[:-1], replies[:5] + [b"ok begin 1 1\n"] + replies[6:], [*replies, b"\n"]):
+            self.assertFalse(self.compared(number, b"".join(wrong)))
+        self.assertFalse(self.compared(number, right, status=139))
+        self.assertFalse(self.compared(number, right, said="oh"))
+        self.assertTrue(self.compared(number, right))
+
+    def test_where_no_frame_begins(self) -> None:
+        number = next(number for number in range(100) if plain.run(scripts.script(number)).fault is not None)
+        done = plain.run(scripts.script(number))
+        right = b"".join(done.replies)
+        self.assertTrue(self.compared(number, right, f"dgraph: bad frame at {done.fault}\n", 4))
+        self.assertFalse(self.compared(number, right, f"dgraph: bad frame at {done.fault}1\n", 4))
+        self.assertFalse(self.compared(number, right))
+
+    def test_a_program_that_doesnt_end(self) -> None:
+        with mock.patch.object(scripts, "SECONDS", 0.2):
+            self.assertFalse(self.compared(0, b"", seconds=100.0))
+
+    def compare(self, *words: str) -> subprocess.CompletedProcess[str]:
+        """What `compare` does with the plain machine in the place of the program."""
+        return subprocess.run([*COMPARE, "--program", self.plain_program(), *words], capture_output=True,
+                              encoding="utf-8", timeout=SECONDS)
+
+    def test_no_scripts_are_none(self) -> None:
+        for count in ("0", "-1"):
+            done = self.compare("--scripts", count)
+            self.assertEqual((done.returncode, done.stdout), (2, ""))
+            self.assertIn(f"expected a number of scripts above 0, found {count}", done.stderr)
+
+    def test_the_numbers_are_told(self) -> None:
+        done = self.compare("--scripts", "3", "--first", "12")
+        self.assertIn("random scripts 12 to 14 (--first 12 --scripts 3)\n", done.stdout)
+        self.assertRegex(done.stdout, r"\n[0-9]+ replies, of which [0-9]+ are conflicts; one in 50 has to be\n")
+        self.assertRegex(done.stdout, r"\nrandom scripts: 3 alike, 0 different\n\Z")
+        self.assertEqual(done.returncode, 0)
+        self.assertRegex(self.compare("--scripts", "1").stdout, r"\Arandom scripts ([0-9]+) to \1 \(--first \1 ")
+
+    def test_too_few_conflicts_fail(self) -> None:
+        for conflicts, status in ((1, 1), (2, 0)):
+            seen = Counter({"ok commit": 98, "error 19": conflicts, "bad frame": 1000})
+            out = io.StringIO()
+            with mock.patch.object(scripts, "Counter", lambda: seen), redirect_stdout(out):
+                with mock.patch.object(scripts, "is_alike", lambda *_: True):
+                    self.assertEqual(scripts.compare_all(self.folder, range(scripts.ENOUGH)), status)
+                    self.assertEqual(scripts.compare_all(self.folder, range(scripts.ENOUGH - 1)), 0)
