@@ -9,6 +9,3 @@ mod sorting;
 pub use items::InOrder;
 pub use ordered::{ascend, is_there, place_of, put, take_out};
 pub use sorting::in_order;
-
-#[cfg(test)]
-mod tests;

@@ -1,4 +1,3 @@
 -- What a table of names and codes is, and what it answers.
 pub mod Rows
 pub mod Tests
-pub mod Verbs

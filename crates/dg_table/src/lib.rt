@@ -3,8 +3,6 @@
 
 mod name;
 mod table;
-#[cfg(test)]
-mod tests;
 
 pub use name::Name;
 pub use table::Table;

@@ -9,6 +9,3 @@ mod uids;
 mod unions;
 
 pub use uids::Uids;
-
-#[cfg(test)]
-mod tests;

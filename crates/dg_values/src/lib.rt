@@ -5,19 +5,13 @@ mod civil;
 mod kind;
 mod laws;
 mod list;
-#[cfg(test)]
-mod literals;
 mod memory;
 mod moment;
 mod order;
 mod printing;
 mod reading;
-#[cfg(test)]
-mod reading_tests;
 mod scalars;
 mod steps;
-#[cfg(test)]
-mod tests;
 mod text;
 mod times;
 mod value;

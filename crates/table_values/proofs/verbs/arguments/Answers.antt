@@ -4,10 +4,10 @@ use Rattle.std.specs.Prelude.{slice_index}
 use Rattle.std.proofs.lemmas.Bool.{and_parts}
 use Rattle.std.proofs.lemmas.Bool.Decides.{Decides-eqb, Decides-ltb}
 use Rattle.dg_table.specs.Rows.{Row, IsCodeOf}
-use Rattle.dg_table.specs.Verbs.{argument_count, is_counted}
-use Rattle.dg_table.specs.declared.tests.TheConstants.{COUNTS}
+use Rattle.table_values.specs.Verbs.{argument_count, is_counted}
+use Rattle.table_values.specs.declared.verbs.TheConstants.{COUNTS}
 use Rattle.dg_table.proofs.TestLemmas.{at_each_row}
-use Rattle.dg_table.proofs.tests.arguments.Goals as goal
+use Rattle.table_values.proofs.verbs.arguments.Goals as goal
 
 -- the rule at the row that a name finds
 counted_where_found : (rows : List Row) (name : List ℕ) (answer : Option ℕ) (code : ℕ) → AllPass (is_counted COUNTS) rows

@@ -1,4 +1,4 @@
--- How many arguments each verb of a request takes, for the tests.
+-- How many arguments each verb of a request takes.
 use Rattle.std.specs.Prelude.{ℕ, Bool, ◌&&◌, ◌==◌, List, [], ◌∷◌, codes, if◌then◌else◌, nat_lt, slice_index}
 use Rattle.std.specs.List.{list_any}
 use Rattle.std.specs.Str.{bytes_eq}

@@ -1,0 +1,2 @@
+-- A rule over a table of verbs.
+pub mod Verbs
