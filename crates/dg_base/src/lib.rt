@@ -4,6 +4,3 @@
 mod base;
 
 pub use base::Base;
-
-#[cfg(test)]
-mod tests;

@@ -12,6 +12,3 @@ pub use layer::Layer;
 pub use merge::merge_ops;
 pub use op::Op;
 pub use overlay::apply;
-
-#[cfg(test)]
-mod tests;

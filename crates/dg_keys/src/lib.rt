@@ -15,6 +15,3 @@ pub use key::Key;
 pub use order::cmp_conflict;
 pub use record::{Part, Record, Tablet};
 pub use text::conflict_text;
-
-#[cfg(test)]
-mod tests;

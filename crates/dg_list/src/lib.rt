@@ -7,8 +7,3 @@ mod gathered;
 mod plist;
 
 pub use plist::PList;
-
-#[cfg(test)]
-mod model_tests;
-#[cfg(test)]
-mod tests;

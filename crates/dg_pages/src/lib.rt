@@ -6,6 +6,3 @@ mod pages;
 mod places;
 
 pub use pages::Pages;
-
-#[cfg(test)]
-mod tests;

@@ -1,4 +1,0 @@
-use Rattle.dg_list.proofs.tests.has.Given as goal
-
-abbrev pub ghosts-look : goal.ghosts-look
-ghosts-look a = record { name = a.blank.name; parts = a.blank.parts }

@@ -1,0 +1,2 @@
+-- Lemmas on what is known of posting lists and stores.
+mod Within

@@ -1,0 +1,50 @@
+//! Reads rows that name calls on bases, operations, maps, posting lists, stores and keys, and prints each row with its
+//! answer.
+//!
+//! A row is words between blanks. The first names its table and the second a command. What a row makes is kept for the
+//! rows below it, up to one that begins anew with `new`. Maps, lists and stores are kept in versions: a row that changes
+//! one makes the next version, and `list@2` names a version in the place of the newest. The answer is `?` where a row
+//! can't be read, or names a call that may not be made.
+#![tactic(auto)]
+
+mod bases;
+mod changes;
+mod conflicts;
+mod fault;
+mod kept_list;
+mod kept_store;
+mod keys;
+mod lists;
+mod maps;
+mod postings;
+mod reads;
+mod stores;
+mod tables;
+mod tablets;
+mod tokens;
+mod versions;
+mod words;
+
+use crate::fault::Answer;
+use crate::tables::Tables;
+use std::io::{self, BufRead, BufReader};
+
+fn main(rt: HostRuntime) -> io::Result<()> {
+    let alloc = rt.alloc();
+    let mut tables = Tables::new(alloc);
+    for line in BufReader::new(alloc, rt.reader())?.lines(alloc) {
+        let line = line?;
+        let row = line.as_str();
+        if !row.is_empty() && !row.starts_with('#') {
+            print_row(&rt, row, tables.answer(alloc, row))?;
+        }
+    }
+    Ok(())
+}
+
+fn print_row(rt: &impl Print, row: &str, answer: Answer<String>) -> io::Result<()> {
+    match answer {
+        Ok(text) => println!(rt; "{row} => {text}"),
+        Err(fault) => println!(rt; "{row} => {fault}"),
+    }
+}

@@ -1,0 +1,173 @@
+// The table of stores of posting lists.
+ghost use Rattle.std.specs.Prelude.{◌↔◌, IfOk, IsTrue};
+ghost use Rattle.std.specs.List.{AllByRecursion};
+ghost use Rattle.dg_values.specs.Ascending.{Ascends};
+ghost use Rattle.dg_delta.specs.Ops.{op_cmp};
+ghost use Rattle.dg_keys.specs.Keys.{part_cmp};
+
+use crate::fault::{Answer, Fault};
+use crate::kept_store::KeptStore;
+use crate::keys::{key, key_text};
+use crate::postings::{layer, posting, postings_text};
+use crate::versions::{add, at};
+use crate::words::{any, halves, number, only_number, text, truth};
+use dg_delta::merge_ops;
+use dg_keys::{Part, Record};
+use dg_sets::InOrder;
+use dg_values::{List, Str};
+use std::alloc::Global;
+
+pub(crate) fn answer(
+    alloc: Global,
+    stores: &mut Vec<KeptStore>,
+    version: Option<u64>,
+    command: &str,
+    words: &[&str],
+) -> Answer<String> {
+    if command == "new" {
+        stores.clear();
+        return add(alloc, stores, KeptStore::new(alloc)?);
+    }
+    let store = at(stores.as_slice(), version)?;
+    match made(alloc, store, command, words)? {
+        Some(made) => add(alloc, stores, made),
+        None => asked(alloc, store, command, words),
+    }
+}
+
+// The store after a command that makes one.
+fn made(
+    alloc: Global,
+    store: &KeptStore,
+    command: &str,
+    words: &[&str],
+) -> Answer<Option<KeptStore>> {
+    match command {
+        "share" => Ok(Some(store.share()?)),
+        "record" => Ok(Some(recorded(alloc, store, words)?)),
+        "base" => {
+            let (words, upto) = halves(words, "|")?;
+            let key = key(alloc, words)?;
+            Ok(Some(store.with_base(alloc, &key, only_number(upto)?)?))
+        }
+        _ => Ok(None),
+    }
+}
+
+// The store after a record: its timestamp, the names of the predicates that are held, and its parts, with `|` between.
+fn recorded(alloc: Global, store: &KeptStore, words: &[&str]) -> Answer<KeptStore> {
+    let (ts, words) = halves(words, "|")?;
+    let (held, words) = halves(words, "|")?;
+    let held = names(alloc, held)?;
+    let rec = record(alloc, only_number(ts)?, words)?;
+    store.with_record(alloc, &rec, held.as_slice())
+}
+
+fn names(alloc: Global, words: &[&str]) -> Answer<Vec<Str>> {
+    let mut names = Vec::new(alloc);
+    for word in any(words) {
+        names.push(text(alloc, word)?)?;
+    }
+    Ok(names)
+}
+
+// A record of parts, whose keys have to ascend.
+fn record(alloc: Global, ts: u64, words: &[&str]) -> Answer<Record>
+    ensures parts { IfOk result (λ rec. Ascends part_cmp rec.parts) }
+    ensures each { IfOk result (λ rec. AllByRecursion (λ part. Ascends op_cmp part.ops) rec.parts) }
+{
+    let parts = parts(alloc, words)?;
+    if !ascend(parts.as_slice()) {
+        return Err(Fault::Unfit);
+    }
+    let fresh = List::new(alloc);
+    Ok(Record { ts, fresh, parts })
+}
+
+// Whether each part's key is below the next.
+fn ascend(parts: &[Part]) -> bool
+    ensures { IsTrue result ↔ Ascends part_cmp parts.now }
+{
+    parts.is_sorted_by(|a, b| a.key.compare(&b.key).is_lt())
+}
+
+fn parts(alloc: Global, words: &[&str]) -> Answer<List<Part>>
+    ensures { IfOk result (λ parts. AllByRecursion (λ part. Ascends op_cmp part.ops) parts) }
+{
+    let mut parts = List::new(alloc);
+    for words in words.split(|word| *word == "|") {
+        parts.push(part(alloc, words)?)?;
+    }
+    Ok(parts)
+}
+
+// A part: a key and operations, which have to ascend, with `:` between.
+fn part(alloc: Global, words: &[&str]) -> Answer<Part>
+    ensures { IfOk result (λ part. Ascends op_cmp part.ops) }
+{
+    let (words, ops) = halves(words, ":")?;
+    let key = key(alloc, words)?;
+    let layer = layer(alloc, 1, ops)?;
+    let ops = List::from_vec(merge_ops(alloc, layer.ops(), &[])?);
+    Ok(Part { key, ops })
+}
+
+fn asked(alloc: Global, store: &KeptStore, command: &str, words: &[&str]) -> Answer<String> {
+    match command {
+        "get" => listed(alloc, store, words),
+        "from" => next(alloc, store, words),
+        "layered" => layered(alloc, store, words),
+        "read" => read(alloc, store, words),
+        "has" => has(alloc, store, words),
+        _ => Err(Fault::Unfit),
+    }
+}
+
+// Whether a key has a list.
+fn listed(alloc: Global, store: &KeptStore, words: &[&str]) -> Answer<String> {
+    let key = key(alloc, words)?;
+    let found = match store.store().get(&key) {
+        Some(_) => "a list",
+        None => "none",
+    };
+    Ok(String::from_str(alloc, found)?)
+}
+
+// The least key at or above one.
+fn next(alloc: Global, store: &KeptStore, words: &[&str]) -> Answer<String> {
+    let from = key(alloc, words)?;
+    match store.store().scan(&from) {
+        Some((key, _)) => Ok(key_text(alloc, key)?),
+        None => Ok(String::from_str(alloc, "none")?),
+    }
+}
+
+// Whether the list of a key has a layer at or below a timestamp.
+fn layered(alloc: Global, store: &KeptStore, words: &[&str]) -> Answer<String> {
+    let (words, upto) = halves(words, "|")?;
+    let key = key(alloc, words)?;
+    let upto = only_number(upto)?;
+    match store.store().get(&key) {
+        Some(list) => Ok(truth(alloc, list.layered(upto))?),
+        None => Ok(String::from_str(alloc, "none")?),
+    }
+}
+
+// The list of a key at a timestamp.
+fn read(alloc: Global, store: &KeptStore, words: &[&str]) -> Answer<String> {
+    let (words, ts) = halves(words, "|")?;
+    let list = store.list(alloc, &key(alloc, words)?)?;
+    let items = list.read(alloc, only_number(ts)?)?;
+    Ok(postings_text(alloc, items.as_slice())?)
+}
+
+// Whether the list of a key has a posting at a timestamp.
+fn has(alloc: Global, store: &KeptStore, words: &[&str]) -> Answer<String> {
+    let (words, rest) = halves(words, "|")?;
+    let [ts, item] = rest else {
+        return Err(Fault::Unfit);
+    };
+    let list = store.list(alloc, &key(alloc, words)?)?;
+    let item = posting(alloc, item)?;
+    Ok(truth(alloc, list.has(number(ts)?, &item)?)?)
+}

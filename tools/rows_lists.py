@@ -1,0 +1,389 @@
+#!/usr/bin/env python3
+"""Prints the generated rows of crates/table_lists, the last ones there.
+
+`rows_lists.py stdin` prints them with their heads, and `rows_lists.py stdout` with their answers.
+These come from this model alone, which knows no layers, bases, runs or pages: a list is the set
+that is left of all operations up to a timestamp, a map is a dict, and what ascends is written down.
+"""
+import json
+import sys
+
+# Postings, keys and conflict keys in ascending order.
+POSTINGS = """
+0 1 2 7 31 255 18446744073709551615
+int:-9223372036854775808 int:-5 int:0 int:12 int:9223372036854775807
+text: text:A text:a text:a␀ text:a␠b text:ab text:b text:z text:é text:日 bool:false bool:true
+time:0000-01-01T00:00:00Z time:1969-12-31T23:59:59.5Z time:1970-01-01T00:00:00Z
+time:2024-02-29T22:30:00.12Z
+""".split()
+KEYS = """
+data age 0
+data age 7
+data age 18446744073709551615
+index age int int:-1
+index age int int:3
+count age 1
+data friend 1
+data friend 2
+data friend 10
+reverse friend 0
+reverse friend 9
+count friend 2
+rcount friend 1
+rcount friend 3
+data name 1
+index name exact text:
+index name exact text:b
+index name hash text:a
+index name term text:a
+index name term text:b
+index name trigram text:abc
+index name bool bool:false
+index name bool bool:true
+index name year time:1993-01-01T00:00:00Z
+index name month time:1993-01-01T00:00:00Z
+index name day time:1992-12-31T00:00:00Z
+index name hour time:1992-12-31T23:00:00Z
+data name␠of 1
+data names 0
+data é 0
+""".strip().splitlines()
+CONFLICTS = r"""
+data age 1
+data age 1 int:-30
+data age 1 int:4
+data age 2
+data friend 1
+data friend 1 0
+data friend 1 31
+data friend 1 text:a
+data friend 2 1
+data name␠of 1 text:"\
+data name␠of 1 bool:false
+data name␠of 1 time:1993-05-19T00:00:00Z
+index age int int:-2
+index age int int:3
+index age int int:3 0
+index age int int:3 4
+index name exact text:z␊
+index name hash text:a
+index name term text:␁q 9
+index name trigram text:abc
+index name bool bool:true 1
+index name year time:1993-01-01T00:00:00Z
+index name month time:1992-05-01T00:00:00Z
+index name day time:1992-05-19T00:00:00Z 255
+index name hour time:1991-05-19T07:00:00Z
+count age 2
+count friend 1
+count friend 10
+rcount age 3
+rcount friend 0
+rcount friend 18446744073709551615
+""".strip().splitlines()
+PREDICATES = ["age", "friend", "name", "name␠of", "names", "é"]
+
+seed = 11
+
+
+def draw():
+    global seed
+    seed = (seed * 6364136223846793005 + 1442695040888963407) % 2**64
+    return seed
+
+
+def below(n):
+    return (draw() >> 33) % n
+
+
+def one_of(places, n):
+    """One of these at every other time, and else one below n."""
+    places = sorted(places)
+    return places[below(len(places))] if places and below(2) else below(n)
+
+
+def some(n, most):
+    """Up to so many places below n, ascending."""
+    return sorted({below(n) for _ in range(below(most + 1))})
+
+
+rows = []
+
+
+def row(text, answer):
+    rows.append((text, str(answer)))
+
+
+def head(text):
+    rows.extend([("", ""), ("# " + text, "")])
+
+
+def truth(b):
+    return "true" if b else "false"
+
+
+def joined(texts):
+    return " ".join(texts) or "none"
+
+
+def words(places):
+    return joined(POSTINGS[p] for p in sorted(places))
+
+
+def some_ops(most):
+    return {p: below(3) > 0 for p in some(len(POSTINGS), most)}
+
+
+def op_word(puts, word):
+    return ("set " if puts else "del ") + str(word)
+
+
+def ops_words(ops):
+    return joined(op_word(ops[p], POSTINGS[p]) for p in sorted(ops))
+
+
+def after(places, ops):
+    return (places | {p for p in ops if ops[p]}) - {p for p in ops if not ops[p]}
+
+
+def bits():
+    head("Sixty commits, each on a node below 8 and on one from 8 to 15. By a set of bits.")
+    row("list new", "version 0")
+    nodes, at_each = 0, [0]
+    for ts in range(1, 61):
+        n = draw()
+        low, high = n >> 33 & 7, 8 | n >> 45 & 7
+        puts = {low: n >> 40 & 3 != 0, high: n >> 52 & 1 == 0}
+        for node in puts:
+            nodes = nodes | 1 << node if puts[node] else nodes & ~(1 << node)
+        at_each.append(nodes)
+        ops = joined(op_word(puts[node], node) for node in (low, high))
+        row(f"list layer {ts} {ops}", f"version {ts}")
+    for ts, nodes in enumerate(at_each):
+        row(f"list read {ts}", joined(str(i) for i in range(16) if nodes >> i & 1))
+
+
+def bases():
+    head("Bases of postings of each kind. By Python's lists.")
+    for _ in range(6):
+        places = some(len(POSTINGS), 14)
+        row(f"base new {words(places)}", len(places))
+        for _ in range(6):
+            p = one_of(places, len(POSTINGS))
+            row(f"base find {POSTINGS[p]}", truth(p in places))
+            row(f"base seek {POSTINGS[p]}", sum(q < p for q in places))
+            start, most = below(12), below(6)
+            row(f"base walk {start} {most}", words(places[start:start + most]))
+
+
+def operations():
+    head("Operations of each kind merged, asked and applied. By Python's dicts and sets.")
+    for _ in range(12):
+        older, newer = some_ops(6), some_ops(6)
+        both = {**older, **newer}
+        row(f"ops merge {ops_words(older)} | {ops_words(newer)}", ops_words(both))
+        for _ in range(3):
+            p = below(len(POSTINGS))
+            said = {None: "unsaid", True: "in", False: "out"}[both.get(p)]
+            row(f"ops decide {ops_words(both)} | {POSTINGS[p]}", said)
+        places = set(some(len(POSTINGS), 8))
+        row(f"ops apply {words(places)} | {ops_words(both)}", words(after(places, both)))
+
+
+def maps():
+    head("Maps in versions. By Python's dicts.")
+    row("map new", "version 0")
+    versions = [{}]
+    for _ in range(25):
+        v = below(len(versions))
+        changes = [(below(12), below(100) if below(3) else None) for _ in range(below(5))]
+        made = dict(versions[v])
+        for key, value in changes:
+            made[key] = value
+        made = {k: made[k] for k in made if made[k] is not None}
+        written = [f"{k}={'none' if x is None else x}" for k, x in changes]
+        row(" ".join([f"map@{v} change", *written]), f"version {len(versions)}")
+        versions.append(made)
+        for _ in range(3):
+            v, key = below(len(versions)), below(13)
+            row(f"map@{v} get {key}", versions[v].get(key, "none"))
+            at = min((k for k in versions[v] if key <= k), default=None)
+            row(f"map@{v} from {key}", "none" if at is None else f"{at}={versions[v][at]}")
+
+
+class Grown:
+    """The operations of all commits on one list, and what may be asked of it."""
+
+    def __init__(self, commits=(), base=0, newest=0):
+        self.commits, self.base, self.newest = tuple(commits), base, newest
+
+    def layer(self, ts, ops):
+        return Grown(self.commits + ((ts, ops),), self.base, ts) if ts > self.newest else None
+
+    def rolled(self, upto):
+        return Grown(self.commits, upto, max(upto, self.newest)) if upto >= self.base else None
+
+    def at(self, ts):
+        places = set()
+        for when, ops in self.commits:
+            places = after(places, ops) if when <= ts else places
+        return places if ts >= self.base else None
+
+    def layered(self, upto):
+        return any(self.base < when <= upto for when, _ in self.commits)
+
+
+def ask_list(version, grown):
+    ts = below(grown.newest + 3)
+    places = grown.at(ts)
+    command, item = ("read", "merged")[below(2)], one_of(places or [], len(POSTINGS))
+    legal = places is not None
+    row(f"list@{version} {command} {ts}", words(places) if legal else "?")
+    row(f"list@{version} has {ts} {POSTINGS[item]}", truth(item in places) if legal else "?")
+    row(f"list@{version} layered {ts}", truth(grown.layered(ts)))
+
+
+def lists():
+    head("Posting lists with bases, in versions. By the set that is left of all operations.")
+    for _ in range(2):
+        row("list new", "version 0")
+        versions = [Grown()]
+        for _ in range(20):
+            v = len(versions) - 1 if below(4) else below(len(versions))
+            grown = versions[v]
+            if below(4):
+                ts, ops = grown.newest + below(4), some_ops(5)
+                text, made = f"layer {ts} {ops_words(ops)}", grown.layer(ts, ops)
+            else:
+                upto = grown.base + below(6)
+                text, made = f"base {upto}", grown.rolled(upto)
+            row(f"list@{v} {text}", f"version {len(versions)}" if made else "?")
+            if made:
+                versions.append(made)
+            for v in (len(versions) - 1, below(len(versions))):
+                ask_list(v, versions[v])
+
+
+def with_base(store, k, upto):
+    lists, _, newest = store
+    rolled = Grown(lists[k].commits if k in lists else (), upto)
+    return {**lists, k: rolled}, upto, max(newest, upto)
+
+
+def with_record(store, ts, held, parts):
+    lists, base, _ = store
+    lists = dict(lists)
+    for k in parts:
+        if KEYS[k].split()[1] in held:
+            old = lists.get(k, Grown())
+            lists[k] = Grown(old.commits + ((ts, parts[k]),), old.base)
+    return lists, base, ts
+
+
+def ask_store(version, store):
+    lists, base, newest = store
+    k, ts = one_of(lists, len(KEYS)), base + below(newest - base + 2)
+    found = lists.get(k)
+    places = (found or Grown()).at(ts)
+    item = one_of(places, len(POSTINGS))
+    later = min((key for key in lists if key >= k), default=None)
+    row(f"store@{version} from {KEYS[k]}", "none" if later is None else KEYS[later])
+    row(f"store@{version} get {KEYS[k]}", "a list" if found else "none")
+    row(f"store@{version} layered {KEYS[k]} | {ts}", truth(found.layered(ts)) if found else "none")
+    row(f"store@{version} read {KEYS[k]} | {ts}", words(places))
+    row(f"store@{version} has {KEYS[k]} | {ts} {POSTINGS[item]}", truth(item in places))
+
+
+def stores():
+    head("Stores of lists under keys of each kind, in versions. By a dict of such sets.")
+    row("store new", "version 0")
+    versions = [({}, 0, 0)]
+    for step in range(20):
+        v = len(versions) - 1 if below(4) else below(len(versions))
+        lists, base, newest = versions[v]
+        if step % 6 == 5:
+            k, upto = one_of(lists, len(KEYS)), base + below(newest - base + 2)
+            made = with_base(versions[v], k, upto)
+            row(f"store@{v} base {KEYS[k]} | {upto}", f"version {len(versions)}")
+        else:
+            ts, held = newest + 1 + below(3), [p for p in PREDICATES if below(4)]
+            keys = {one_of(lists, len(KEYS)) for _ in range(1 + below(4))}
+            parts = {k: some_ops(4) for k in sorted(keys)}
+            made = with_record(versions[v], ts, held, parts)
+            written = [f"{KEYS[k]} : {ops_words(parts[k])}" for k in parts]
+            texts = [f"store@{v} record {ts}", joined(held), *written]
+            row(" | ".join(texts), f"version {len(versions)}")
+        versions.append(made)
+        for v in (len(versions) - 1, below(len(versions))):
+            ask_store(v, versions[v])
+
+
+def order(a, b):
+    return "less" if a < b else "equal" if a == b else "greater"
+
+
+def pairs(count):
+    """All neighbours, each one with itself, and some that are drawn."""
+    drawn = [(below(count), below(count)) for _ in range(40)]
+    return [(i, i + 1) for i in range(count - 1)] + [(i, i) for i in range(count)] + drawn
+
+
+def keys():
+    head("Keys. By the order in which tools/rows_lists.py writes them down.")
+    for a, b in pairs(len(KEYS)):
+        command = ("order", "cmp", "below", "equal")[below(4)]
+        answer = {"below": truth(a < b), "equal": truth(a == b)}.get(command, order(a, b))
+        row(f"key {command} {KEYS[a]} | {KEYS[b]}", answer)
+    for key in KEYS:
+        row(f"key copy {key}", key)
+        row(f"key pred {key}", key.split()[1])
+
+
+def plain(text):
+    return "".join(chr(ord(c) - 0x2400) if 0x2400 <= ord(c) <= 0x2420 else c for c in text)
+
+
+def conflict_text(key):
+    kind, pred, *rest = key.split()
+    if kind == "index":
+        texts = [rest[0], value_text(rest[1])] + [hex(int(n)) for n in rest[2:]]
+    else:
+        texts = [hex(int(rest[0]))] + [value_text(v) for v in rest[1:]]
+    return " ".join([kind, plain(pred)] + texts)
+
+
+def value_text(word):
+    kind, _, text = word.partition(":")
+    if not text and kind.isdigit():
+        return hex(int(kind))
+    return text if kind in ("int", "bool") else json.dumps(plain(text), ensure_ascii=False)
+
+
+def conflicts():
+    head("Conflict keys. By the order there, and by Python's json.")
+    for a, b in pairs(len(CONFLICTS)):
+        command = ("compare", "order", "cmp", "below", "equal")[below(5)]
+        answer = {"below": truth(a < b), "equal": truth(a == b)}.get(command, order(a, b))
+        row(f"conflict {command} {CONFLICTS[a]} | {CONFLICTS[b]}", answer)
+    row("conflict new", 0)
+    kept = set()
+    for key in CONFLICTS:
+        row(f"conflict text {key}", conflict_text(key))
+        row(f"conflict copy {key}", conflict_text(key))
+        k = below(len(CONFLICTS))
+        kept.add(k)
+        row(f"conflict put {CONFLICTS[k]}", len(kept))
+        k = below(len(CONFLICTS))
+        found = "at " if k in kept else "missing at "
+        row(f"conflict place {CONFLICTS[k]}", found + str(sum(i < k for i in kept)))
+    texts = [conflict_text(CONFLICTS[k]) for k in sorted(kept)]
+    row("conflict keys", ", ".join(texts) + ": true")
+
+
+for make in (bits, bases, operations, maps, lists, stores, keys, conflicts):
+    make()
+for text, answer in rows:
+    if sys.argv[1:] == ["stdin"]:
+        print(text)
+    elif answer:
+        print(f"{text} => {answer}")
