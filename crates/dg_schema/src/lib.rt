@@ -18,6 +18,3 @@ pub use fault::SchemaFault;
 pub use laws::{definitions_join, schemas_read_back};
 pub use reading::read_schema;
 pub use schema::Schema;
-
-#[cfg(test)]
-mod tests;

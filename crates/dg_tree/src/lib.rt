@@ -8,6 +8,3 @@ mod tree;
 pub use fault::TreeFault;
 pub use text::answer_text;
 pub use tree::{Field, Tree};
-
-#[cfg(test)]
-mod tests;

@@ -1,0 +1,82 @@
+//! Reads rows from standard input and prints each with its answer: what the crates of texts, schemas, mutations and
+//! answers make of the row. A row is the name of a table and its fields, with a tab between any two; a control character
+//! within a field stands as its picture.
+#![tactic(auto)]
+
+mod faults;
+mod mutations;
+mod pictures;
+mod readers;
+mod schemas;
+mod tokens;
+mod trees;
+
+use crate::pictures::plain;
+use crate::schemas::Held;
+use dg_values::{Mem, OutOfMemory};
+use std::alloc::{AllocError, Global};
+use std::io::{self, BufRead, BufReader};
+
+// The most bytes that a text has.
+const MOST: usize = 1_048_576;
+
+fn main(rt: HostRuntime) -> io::Result<()> {
+    let alloc = rt.alloc();
+    let mut held = Held::new(alloc);
+    for line in BufReader::new(alloc, rt.reader())?.lines(alloc) {
+        let row = line?;
+        if !is_passed_over(row.as_str()) {
+            print_row(&rt, alloc, &mut held, row.as_str())?;
+        }
+    }
+    Ok(())
+}
+
+// Whether a line is empty or a comment.
+fn is_passed_over(line: &str) -> bool {
+    line.is_empty() || line.starts_with('#')
+}
+
+fn print_row(rt: &impl Print, alloc: Global, held: &mut Held, row: &str) -> io::Result<()> {
+    let (table, fields) = row.split_once('\t').unwrap_or((row, ""));
+    match answer(alloc, held, table, fields) {
+        Ok(Some(answer)) => println!(rt; "{row} => {answer}"),
+        Ok(None) => println!(rt; "? {row}"),
+        Err(OutOfMemory) => Err(AllocError.into()),
+    }
+}
+
+// What a table answers to the fields of a row; none where they can't be read.
+fn answer(alloc: Global, held: &mut Held, table: &str, fields: &str) -> Mem<Option<String>> {
+    match table {
+        "name" => readers::name(alloc, fields),
+        "next" => readers::next(alloc, fields),
+        "held" => schemas::call(alloc, held, fields),
+        "tree" => trees::text(alloc, fields),
+        "size" => trees::size(alloc, fields),
+        "fault" => faults::fault(alloc, fields),
+        _ => {
+            let text = plain(alloc, fields)?;
+            answer_to_text(alloc, table, text.as_str())
+        }
+    }
+}
+
+// What a table of texts answers to one.
+fn answer_to_text(alloc: Global, table: &str, text: &str) -> Mem<Option<String>> {
+    if text.len() > MOST {
+        return Ok(None);
+    }
+    match table {
+        "tokens" => tokens::tokens(alloc, text),
+        "front" => tokens::front(alloc, text),
+        "pieces" => tokens::pieces(alloc, text),
+        "says" => tokens::says(alloc, text),
+        "unquoted" => tokens::unquoted(alloc, text),
+        "schema" => schemas::definitions(alloc, text),
+        "printed" => schemas::printed(alloc, text),
+        "mutation" => mutations::mutation(alloc, text),
+        "cut" => mutations::cut(alloc, text),
+        _ => Ok(None),
+    }
+}

@@ -1,0 +1,158 @@
+// Trees that the steps of a row make, and the text of their answer.
+ghost use Rattle.std.specs.Prelude.{◌≤◌, IfSome};
+
+use crate::pictures::{pictured, plain};
+use dg_tree::{Field, Tree, answer_text};
+use dg_values::{List, Mem, Str};
+use std::alloc::Global;
+
+// What the steps have made and no later step has taken.
+#[derive(Drop)]
+struct Made {
+    trees: Vec<Tree>,
+    fields: Vec<Field>,
+}
+
+// The text of the answer whose blocks are the fields that the steps make.
+pub(crate) fn text(alloc: Global, steps: &str) -> Mem<Option<String>> {
+    let Some(blocks) = blocks(alloc, steps)? else {
+        return Ok(None);
+    };
+    match answer_text(alloc, blocks.as_slice()) {
+        Ok(text) => Ok(Some(pictured(alloc, text.as_str())?)),
+        Err(fault) => Ok(Some(fault.to_string(alloc)?)),
+    }
+}
+
+// How many bytes that text has.
+pub(crate) fn size(alloc: Global, steps: &str) -> Mem<Option<String>> {
+    let Some(blocks) = blocks(alloc, steps)? else {
+        return Ok(None);
+    };
+    match answer_text(alloc, blocks.as_slice()) {
+        Ok(text) => Ok(Some(format!(in alloc; "{} bytes", text.len())?)),
+        Err(fault) => Ok(Some(fault.to_string(alloc)?)),
+    }
+}
+
+// The fields that are left behind the last step, where no tree is.
+fn blocks(alloc: Global, steps: &str) -> Mem<Option<Vec<Field>>> {
+    let mut made = Made {
+        trees: Vec::new(alloc),
+        fields: Vec::new(alloc),
+    };
+    for step in steps.split('\t') {
+        let (word, said) = step.split_once(' ').unwrap_or((step, ""));
+        let said = plain(alloc, said)?;
+        if !take_step(alloc, &mut made, word, said.as_str())? {
+            return Ok(None);
+        }
+    }
+    let Made { trees, fields } = made;
+    if trees.is_empty() {
+        Ok(Some(fields))
+    } else {
+        Ok(None)
+    }
+}
+
+// Whether the step could be taken. A leaf is added to the trees; the other steps take what was made last.
+fn take_step(alloc: Global, made: &mut Made, word: &str, said: &str) -> Mem<bool> {
+    match word {
+        "nothing" => Ok(true),
+        "array" => push_array(made, said),
+        "node" => push_node(made, said),
+        "deep" => push_deep(alloc, made, said),
+        "field" => push_field(alloc, made, said),
+        _ => push_leaf(alloc, made, word, said),
+    }
+}
+
+fn push_leaf(alloc: Global, made: &mut Made, word: &str, said: &str) -> Mem<bool> {
+    match leaf(alloc, word, said)? {
+        None => Ok(false),
+        Some(tree) => {
+            made.trees.push(tree)?;
+            Ok(true)
+        }
+    }
+}
+
+fn leaf(alloc: Global, word: &str, said: &str) -> Mem<Option<Tree>> {
+    match word {
+        "int" => Ok(said.parse::<i64>().ok().map(Tree::Int)),
+        "true" => Ok(Some(Tree::Bool(true))),
+        "false" => Ok(Some(Tree::Bool(false))),
+        "text" => Ok(Some(Tree::Text(Str::from_str(alloc, said)?))),
+        "long" => long_text(alloc, said),
+        _ => Ok(None),
+    }
+}
+
+// A text of so many bytes.
+fn long_text(alloc: Global, count: &str) -> Mem<Option<Tree>> {
+    match count.parse::<usize>() {
+        Err(_) => Ok(None),
+        Ok(count) => {
+            let text = "x".repeat(alloc, count)?;
+            Ok(Some(Tree::Text(Str::from_string(text))))
+        }
+    }
+}
+
+// Where the last ones begin, of which so many are asked for.
+fn start_of_last(len: usize, count: &str) -> Option<usize>
+    ensures { IfSome result (λ start. start ≤ len) }
+{
+    let count = count.parse::<usize>().ok()?;
+    len.checked_sub(count)
+}
+
+// An array of the last trees.
+fn push_array(made: &mut Made, count: &str) -> Mem<bool> {
+    let Some(start) = start_of_last(made.trees.len(), count) else {
+        return Ok(false);
+    };
+    let last = made.trees.split_off(start)?;
+    made.trees.push(Tree::Array(List::from_vec(last)))?;
+    Ok(true)
+}
+
+// A node of the last fields.
+fn push_node(made: &mut Made, count: &str) -> Mem<bool> {
+    let Some(start) = start_of_last(made.fields.len(), count) else {
+        return Ok(false);
+    };
+    let last = made.fields.split_off(start)?;
+    made.trees.push(Tree::Node(List::from_vec(last)))?;
+    Ok(true)
+}
+
+// The last tree in so many arrays, each of which has it alone.
+fn push_deep(alloc: Global, made: &mut Made, levels: &str) -> Mem<bool> {
+    let Ok(levels) = levels.parse::<u16>() else {
+        return Ok(false);
+    };
+    let Some(mut tree) = made.trees.pop() else {
+        return Ok(false);
+    };
+    for _ in 0..levels {
+        let mut trees = List::new(alloc);
+        trees.push(tree)?;
+        tree = Tree::Array(trees);
+    }
+    made.trees.push(tree)?;
+    Ok(true)
+}
+
+// The last tree at a key.
+fn push_field(alloc: Global, made: &mut Made, key: &str) -> Mem<bool> {
+    match made.trees.pop() {
+        None => Ok(false),
+        Some(tree) => {
+            let key = Str::from_str(alloc, key)?;
+            made.fields.push(Field { key, tree })?;
+            Ok(true)
+        }
+    }
+}
