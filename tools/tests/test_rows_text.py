@@ -7,7 +7,7 @@ from pathlib import Path
 
 import rows_text as rows
 
-TABLE = Path(__file__).resolve().parent.parent / "crates" / "table_text"
+TABLE = Path(__file__).resolve().parents[2] / "crates" / "table_text"
 
 # Rows and what they want, by hand from the grammars.
 BY_HAND = {
@@ -28,7 +28,7 @@ BY_HAND = {
     "mutation\t{ delete { <0x1F> p * . } }": "delete 0x1f p *.",
     'mutation\t<0x1> p "a"^^<xs:float> .': "no mutation by byte 13",
     'mutation\t<0x0> <1a> * ?': "no token starts at byte 13",
-    "cut\t_:é p": "S0 S0 - T2 T2 end",
+    'cut\t<0x1> "é" .': "T0 T0 T0 T0 S5 S6 T6 - T6 S6 S6 end",
     "tree\tint -1\ttext \"\tarray 2\tfield q": '{"data":{"q":[-1,"\\""]}}',
     "size\tlong 16777200\tfield": "16777216 bytes",
     "size\tlong 16777201\tfield": "the answer is too large",
