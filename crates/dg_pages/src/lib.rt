@@ -1,8 +1,11 @@
-//! Ordered maps that are shared: a changed map leaves the old one as it was.
+//! Ordered maps in shared pages: a changed map leaves the old one as it was, and shares the pages that it didn't touch.
 #![tactic(auto)]
 
-mod changes;
+mod edits;
+mod joins;
+mod merges;
 mod pages;
 mod places;
+mod tree;
 
 pub use pages::Pages;

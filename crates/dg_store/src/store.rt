@@ -28,11 +28,12 @@ pub struct Store {
 }
 
 impl Model for Store {
+    ghost use Rattle.dg_pages.specs.Paged.{joined};
     ghost use Rattle.dg_store.specs.Stores.{Lists};
 
     ghost Value = { Lists };
 
-    ghost view = { λ store. store.lists };
+    ghost view = { λ store. joined store.lists };
 }
 
 impl Store {
