@@ -35,6 +35,3 @@ pub use held::Held;
 pub use laws::{never_two_held, own_places};
 pub use lock::Turn;
 pub use logged::Logged;
-
-#[cfg(test)]
-mod tests;
