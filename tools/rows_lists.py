@@ -190,6 +190,22 @@ def operations():
         row(f"ops apply {words(places)} | {ops_words(both)}", words(after(places, both)))
 
 
+def change_map(versions, v, changes):
+    written = [f"{k}={'none' if x is None else x}" for k, x in changes]
+    row(" ".join([f"map@{v} change", *written]), f"version {len(versions)}")
+    made = dict(versions[v])
+    for key, value in changes:
+        made[key] = value
+    versions.append({k: made[k] for k in made if made[k] is not None})
+
+
+def ask_map(versions, keys):
+    v, key = below(len(versions)), below(keys + 1)
+    row(f"map@{v} get {key}", versions[v].get(key, "none"))
+    at = min((k for k in versions[v] if key <= k), default=None)
+    row(f"map@{v} from {key}", "none" if at is None else f"{at}={versions[v][at]}")
+
+
 def maps():
     head("Maps in versions. By Python's dicts.")
     row("map new", "version 0")
@@ -197,18 +213,29 @@ def maps():
     for _ in range(25):
         v = below(len(versions))
         changes = [(below(12), below(100) if below(3) else None) for _ in range(below(5))]
-        made = dict(versions[v])
-        for key, value in changes:
-            made[key] = value
-        made = {k: made[k] for k in made if made[k] is not None}
-        written = [f"{k}={'none' if x is None else x}" for k, x in changes]
-        row(" ".join([f"map@{v} change", *written]), f"version {len(versions)}")
-        versions.append(made)
+        change_map(versions, v, changes)
         for _ in range(3):
-            v, key = below(len(versions)), below(13)
-            row(f"map@{v} get {key}", versions[v].get(key, "none"))
-            at = min((k for k in versions[v] if key <= k), default=None)
-            row(f"map@{v} from {key}", "none" if at is None else f"{at}={versions[v][at]}")
+            ask_map(versions, 12)
+
+
+def large_maps():
+    head("Maps of hundreds of keys, which are put in and taken out again. By Python's dicts.")
+    row("map new", "version 0")
+    versions = [{}]
+    for step in range(24):
+        v = len(versions) - 1 if below(6) else below(len(versions))
+        there = sorted(versions[v])
+        if step % 8 < 5 or not there:
+            changes = [(below(600), below(1000)) for _ in range(20 + below(90))]
+        else:
+            start = below(len(there))
+            changes = [(k, None) for k in there[start : start + 10 + below(150)]]
+        change_map(versions, v, changes)
+        for _ in range(6):
+            ask_map(versions, 600)
+    for v, kept in enumerate(versions[-6:], len(versions) - 6):
+        for key in sorted(kept)[:: 1 + len(kept) // 20]:
+            row(f"map@{v} from {key}", f"{key}={kept[key]}")
 
 
 class Grown:
@@ -380,7 +407,7 @@ def conflicts():
     row("conflict keys", ", ".join(texts) + ": true")
 
 
-for make in (bits, bases, operations, maps, lists, stores, keys, conflicts):
+for make in (bits, bases, operations, maps, lists, stores, keys, conflicts, large_maps):
     make()
 for text, answer in rows:
     if sys.argv[1:] == ["stdin"]:
