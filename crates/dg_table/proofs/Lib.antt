@@ -1,3 +1,4 @@
 -- What the proofs of tables share.
 pub mod RowLemmas
 pub mod TestLemmas
+pub mod WordLemmas
