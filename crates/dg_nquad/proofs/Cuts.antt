@@ -8,7 +8,7 @@ use Rattle.std.proofs.lemmas.Bool.Decides.{nat_tests}
 use Rattle.std.proofs.lemmas.Slice.Eq.{bytes_eq-Decides}
 use Rattle.std.proofs.lemmas.List.{take-append-drop, length-append}
 use Rattle.std.proofs.Math.Seq.{drop-append_seam, take-append_seam}
-use Rattle.dg_nquad.specs.Words.{after, before}
+use Rattle.dg_text.specs.Said.{after, before}
 
 after_at : (c : ℕ) (rest : List ℕ) → after c (c ∷ rest) ≡ Some rest
 after_at c rest = go (c == c) refl (grind (arith, nat_tests))

@@ -6,7 +6,7 @@ use Rattle.std.specs.List.{AllByRecursion}
 use Rattle.std.proofs.SliceLists.{all_by_recursion_push}
 use Rattle.dg_text.specs.Reading.{Read, and_then, choose, give, here, next, one_as, optional, refuse_at, repeated, skip, turns}
 use Rattle.dg_text.specs.Reading as reading
-use Rattle.dg_text.specs.Tokens.{Tok, is_iri, is_punct, is_word, toks_of}
+use Rattle.dg_text.specs.Tokens.{Tok, is_iri, is_punct, is_word, toks_of, is_blank, is_caret, is_quoted}
 use Rattle.dg_text.specs.Lexing.{lexed}
 use Rattle.dg_text.specs.declared.token.Token.{Token}
 use Rattle.dg_nquad.specs.declared.block.Block.{Block}
@@ -19,8 +19,11 @@ use Rattle.dg_nquad.specs.declared.mutation.Statement.{Statement}
 use Rattle.dg_nquad.specs.Grammar as grammar
 use Rattle.dg_nquad.specs.Grammar.{variable, uid_variable, node, type_tag, literal, val_variable, all_objects, node_object, object, statement, statements, group, groups, body, begins_statement, begins_group, is_label, plain_set}
 use Rattle.dg_nquad.specs.Plain.{IsNamed, IsNoVariable, HasNoVariable}
-use Rattle.dg_nquad.specs.Whole.{offset_of, outcome, by_tokens, mutation, Reads}
-use Rattle.dg_nquad.specs.Words.{is_blank, is_caret, is_quoted, node_meant, predicate_meant, quoted_meant, group_meant, uid_said, blank_name}
+use Rattle.dg_text.specs.Places.{offset_of}
+use Rattle.dg_nquad.specs.Whole.{outcome, by_tokens, mutation, Reads}
+use Rattle.dg_text.specs.Words.{predicate_meant}
+use Rattle.dg_text.specs.Said.{quoted_meant, uid_said, blank_name}
+use Rattle.dg_nquad.specs.Words.{node_meant, group_meant}
 
 -- ---- what holds of what is read
 

@@ -6,7 +6,7 @@ use Rattle.dg_text.specs.declared.token.TokenKind.{TokenKind}
 use Rattle.dg_text.specs.Tokens.{Tok, IsCut, AreCut, toks_of, shown}
 use Rattle.dg_text.specs.declared.token.Token.{Token}
 use Rattle.dg_text.specs.declared.token.TokenKind.TheVariants as kinds
-use Rattle.dg_nquad.specs.Sizes.{IsSmall, AreSmall}
+use Rattle.dg_text.specs.Sizes.{IsSmall, AreSmall}
 
 small_next : (ts : List Tok) (at : ℕ) (t : Tok) (rest : List Tok) → AreSmall ts → drop at ts ≡ t ∷ rest → IsSmall t
 small_next [] zero t rest a e = absurd (cc)

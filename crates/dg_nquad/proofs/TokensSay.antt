@@ -15,8 +15,8 @@ use Rattle.dg_text.specs.declared.token.TokenKind.{TokenKind}
 use Rattle.dg_text.specs.declared.token.TokenKind.TheVariants as kinds
 use Rattle.dg_text.proofs.TokenLists.{lexed_tokens}
 use Rattle.dg_nquad.specs.Laws.{IsSaid}
-use Rattle.dg_nquad.specs.Words.{before, between_quotes, blank_name}
-use Rattle.dg_nquad.proofs.Cuts.{before_at}
+use Rattle.dg_text.specs.Said.{before, between_quotes, blank_name}
+use Rattle.dg_text.proofs.Cuts.{before_at}
 
 -- ---- one token
 

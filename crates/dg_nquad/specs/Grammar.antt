@@ -2,7 +2,7 @@
 use Rattle.std.specs.Prelude.{ℕ, Bool, false, ◌||◌, ◌&&◌, not, List, [], ◌∷◌, ◌++◌, Option, Some, None, is_some, codes}
 use Rattle.dg_text.specs.Reading as reading
 use Rattle.dg_text.specs.Reading.{◌>>=◌, ◌>>◌, give, here, refuse_at, next, skip, one_as, choose, optional, repeated}
-use Rattle.dg_text.specs.Tokens.{Tok, is_iri, is_punct, is_word}
+use Rattle.dg_text.specs.Tokens.{Tok, is_iri, is_punct, is_word, is_blank, is_quoted, is_caret}
 use Rattle.dg_values.specs.declared.kind.Kind.{Kind}
 use Rattle.dg_nquad.specs.declared.block.Block.{Block}
 use Rattle.dg_nquad.specs.declared.mutation.Node.{Node}
@@ -10,7 +10,9 @@ use Rattle.dg_nquad.specs.declared.mutation.Node.TheVariants as nodes
 use Rattle.dg_nquad.specs.declared.mutation.Object.{Object}
 use Rattle.dg_nquad.specs.declared.mutation.Object.TheVariants as objects
 use Rattle.dg_nquad.specs.declared.mutation.Statement.{Statement}
-use Rattle.dg_nquad.specs.Words.{is_blank, is_quoted, is_caret, name_meant, node_meant, predicate_meant, quoted_meant, kind_meant, group_meant}
+use Rattle.dg_text.specs.Words.{name_meant, predicate_meant}
+use Rattle.dg_text.specs.Said.{quoted_meant}
+use Rattle.dg_nquad.specs.Words.{node_meant, kind_meant, group_meant}
 
 -- what is read of the tokens that are left
 abbrev Reader : Type 0 → Type 0

@@ -2,9 +2,9 @@
 use Rattle.std.specs.Prelude.{◌≡◌, ℕ, true, List, Ok, IsSome}
 use Rattle.std.specs.List.{AllByRecursion}
 use Rattle.dg_text.specs.Lexing.{lexed}
-use Rattle.dg_text.specs.Tokens.{Tok, toks_of}
+use Rattle.dg_text.specs.Tokens.{Tok, toks_of, is_blank, is_quoted}
 use Rattle.dg_text.specs.declared.token.Token.{Token}
-use Rattle.dg_nquad.specs.Words.{is_blank, is_quoted, blank_name, quoted_meant}
+use Rattle.dg_text.specs.Said.{blank_name, quoted_meant}
 
 -- where the token is a Quoted or a Blank, it says a text or a name
 abbrev pub IsSaid : Tok → Type 0

@@ -1,10 +1,12 @@
 // The grammar of mutations, read from tokens. A place is the index of a token.
 ghost use Rattle.std.specs.Prelude.{◌≡◌, drop, None, [], Ok};
 ghost use Rattle.dg_text.specs.Reading.{Gives, one_as, next, skip, repeated, optional};
-ghost use Rattle.dg_text.specs.Tokens.{tok, toks};
+ghost use Rattle.dg_text.specs.Tokens.{tok, toks, is_caret};
 ghost use Rattle.dg_nquad.specs.Grammar as spec;
-ghost use Rattle.dg_nquad.specs.Sizes.{AreSmall};
-ghost use Rattle.dg_nquad.specs.Words.{is_caret, name_meant, node_meant, predicate_meant, quoted_meant, kind_meant, group_meant};
+ghost use Rattle.dg_text.specs.Sizes.{AreSmall};
+ghost use Rattle.dg_text.specs.Words.{name_meant, predicate_meant};
+ghost use Rattle.dg_text.specs.Said.{quoted_meant};
+ghost use Rattle.dg_nquad.specs.Words.{node_meant, kind_meant, group_meant};
 
 use crate::block::Block;
 use crate::terms::{node_of, owned, quoted_of};

@@ -3,8 +3,9 @@ ghost use Rattle.std.specs.Prelude.{◌≡◌, ◌≤◌, length, IfOk, Ok};
 ghost use Rattle.std.specs.List.{AllByRecursion};
 ghost use Rattle.dg_text.specs.Tokens.{toks, AreCut};
 ghost use Rattle.dg_nquad.specs.Plain.{HasNoVariable};
-ghost use Rattle.dg_nquad.specs.Sizes.{AreSmall};
-ghost use Rattle.dg_nquad.specs.Whole.{offset_of, statements_of, by_tokens, mutation, Reads};
+ghost use Rattle.dg_text.specs.Sizes.{AreSmall};
+ghost use Rattle.dg_text.specs.Places.{offset_of};
+ghost use Rattle.dg_nquad.specs.Whole.{statements_of, by_tokens, mutation, Reads};
 
 use crate::grammar::body_at;
 use crate::{Mutation, NquadFault};

@@ -3,7 +3,8 @@ ghost use Rattle.std.specs.Prelude.{◌≡◌, ◌≤◌, length, IfOk, IfErr};
 ghost use Rattle.dg_text.specs.declared.reading.ReadError.TheVariants as errors;
 ghost use Rattle.dg_text.specs.Tokens.{tok};
 ghost use Rattle.dg_text.specs.Escapes as escapes;
-ghost use Rattle.dg_nquad.specs.Words.{node_meant, quoted_meant};
+ghost use Rattle.dg_text.specs.Said.{quoted_meant};
+ghost use Rattle.dg_nquad.specs.Words.{node_meant};
 
 use crate::Node;
 use crate::tokens::{is_a_blank, is_a_quoted};

@@ -1,8 +1,7 @@
 // Tokens of the kinds and words that mutations have, one at a time.
 ghost use Rattle.std.specs.Prelude.{◌≡◌, drop};
 ghost use Rattle.dg_text.specs.Reading.{Gives, next, skip};
-ghost use Rattle.dg_text.specs.Tokens.{tok, toks, is_word};
-ghost use Rattle.dg_nquad.specs.Words.{is_blank, is_quoted, is_caret};
+ghost use Rattle.dg_text.specs.Tokens.{tok, toks, is_word, is_blank, is_quoted, is_caret};
 
 use dg_text::reading::{is_a_name, left, peek};
 use dg_text::{Piece, ReadError, TokenKind};

@@ -19,7 +19,7 @@ use Rattle.dg_text.specs.Escapes.{hex_number}
 use Rattle.dg_text.specs.Lexing.{gap, skip_gap, token, token_starts}
 use Rattle.dg_text.proofs.Turns.{stops}
 use Rattle.dg_schema.specs.declared.definition.PredDef.{PredDef}
-use Rattle.dg_schema.specs.Words.{is_whole_name}
+use Rattle.dg_text.specs.Words.{is_whole_name}
 use Rattle.dg_schema.specs.Readable.{IsReadable, AreReadable}
 use Rattle.dg_schema.specs.Texts.{kind_word, tokenizer_word, type_text, next_text, index_text, where_so, definition_text}
 

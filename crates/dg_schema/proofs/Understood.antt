@@ -17,7 +17,8 @@ use Rattle.dg_schema.specs.declared.statement.Statement.{Statement}
 use Rattle.dg_schema.specs.Definitions.{AreDistinct, is_declared, is_named}
 use Rattle.dg_schema.specs.Texts.{kind_word, tokenizer_word}
 use Rattle.dg_schema.specs.Words.{kind_of_word, tokenizer_of_word, fits_kind, is_uid}
-use Rattle.dg_schema.specs.Grammar.{comma, comma_tokenizer, tokenizers as tokenizer_list, index, index_of, unmarked, directive, type_of, list_type, stated, define, is_allowed, is_indexable, distinct, statement, begins_statement}
+use Rattle.dg_text.specs.Marks.{comma}
+use Rattle.dg_schema.specs.Grammar.{comma_tokenizer, tokenizers as tokenizer_list, index, index_of, unmarked, directive, type_of, list_type, stated, define, is_allowed, is_indexable, distinct, statement, begins_statement}
 use Rattle.dg_schema.specs.Readable.{IsReadable, AreReadable}
 use Rattle.dg_schema.proofs.Names.{same_text-turned}
 use Rattle.dg_schema.proofs.Saying.{Say, say_of, turn, type_says, others_say, index_says, flag_says, flags_say, line_says, lines_say}

@@ -12,7 +12,7 @@ use Rattle.dg_text.specs.Reading.{Read, turns}
 use Rattle.dg_text.specs.Tokens.{Tok, tok_of, toks_of, is_name}
 use Rattle.dg_text.specs.Forms.{Sized, token_at, name_len, name_more, is_letter, is_word_byte, goes_on, longest, longer, int_len, uid_len, quoted_len, regex_len, at_len, iri_len, blank_len, caret_len, punct_len, first_byte, whole, is_short}
 use Rattle.dg_text.specs.Lexing.{gap, token, token_starts, front, skip_gap}
-use Rattle.dg_schema.specs.Words.{is_whole_name}
+use Rattle.dg_text.specs.Words.{is_whole_name}
 use Rattle.dg_schema.proofs.Saying.{past, more_goes, more_ends, first_of, read_first, turn}
 
 -- ---- a Name cut out is a Name

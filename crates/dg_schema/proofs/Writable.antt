@@ -16,13 +16,16 @@ use Rattle.dg_schema.specs.declared.statement.Statement.{Statement}
 use Rattle.dg_schema.specs.declared.words.Directive.{Directive}
 use Rattle.dg_schema.specs.declared.words.Directive.TheVariants as directives
 use Rattle.dg_schema.specs.Definitions.{AreDistinct, is_declared, is_named, replaced, with_definition, with_definitions}
-use Rattle.dg_schema.specs.Words.{is_whole_name, is_reserved, kind_meant, tokenizer_meant, directive_meant, predicate_meant, fits_kind, is_uid}
-use Rattle.dg_schema.specs.Grammar.{colon, comma, dot, open_round, close_round, open_square, close_square, scalar, list_type, type_of, comma_tokenizer, tokenizers as tokenizer_list, unmarked, index, after_word, directive, distinct, is_indexable, stated, is_allowed, index_of, define, statement, begins_statement, statements}
+use Rattle.dg_text.specs.Words.{is_whole_name, is_reserved, predicate_meant}
+use Rattle.dg_schema.specs.Words.{kind_meant, tokenizer_meant, directive_meant, fits_kind, is_uid}
+use Rattle.dg_text.specs.Marks.{colon, comma, dot, open_round, close_round, open_square, close_square}
+use Rattle.dg_schema.specs.Grammar.{scalar, list_type, type_of, comma_tokenizer, tokenizers as tokenizer_list, unmarked, index, after_word, directive, distinct, is_indexable, stated, is_allowed, index_of, define, statement, begins_statement, statements}
 use Rattle.dg_schema.specs.Readable.{IsReadable, AreReadable}
 use Rattle.dg_schema.proofs.Names.{distinct_pushed}
 use Rattle.dg_schema.proofs.Understood.{not_none}
 use Rattle.dg_schema.proofs.WholeNames.{IsWhole, front_whole}
-use Rattle.dg_schema.specs.Whole.{schema, from_front, outcome, line_at, offset_of}
+use Rattle.dg_text.specs.Places.{offset_of}
+use Rattle.dg_schema.specs.Whole.{schema, from_front, outcome, line_at}
 
 -- each Name among tokens is whole
 abbrev pub AreWhole : List Tok → Type 0

@@ -14,7 +14,8 @@ use Rattle.dg_schema.specs.declared.statement.Statement.{Statement}
 use Rattle.dg_schema.specs.declared.words.Directive.{Directive}
 use Rattle.dg_schema.specs.declared.words.Directive.TheVariants as directives
 use Rattle.dg_schema.specs.Definitions.{is_declared}
-use Rattle.dg_schema.specs.Words.{kind_meant, tokenizer_meant, directive_meant, predicate_meant, is_reserved, fits_kind, default_token, is_uid}
+use Rattle.dg_text.specs.Words.{predicate_meant, is_reserved}
+use Rattle.dg_schema.specs.Words.{kind_meant, tokenizer_meant, directive_meant, fits_kind, default_token, is_uid}
 
 -- what is read of the tokens that are left
 abbrev Reader : Type 0 → Type 0

@@ -3,7 +3,8 @@ use Rattle.std.specs.Prelude.{◌≡◌, ℕ, true, false, ◌==◌, length, Lis
 use Rattle.std.specs.List.{list_all, AllByRecursion}
 use Rattle.dg_schema.specs.declared.definition.PredDef.{PredDef}
 use Rattle.dg_schema.specs.Definitions.{AreDistinct, with_definitions}
-use Rattle.dg_schema.specs.Words.{is_whole_name, is_reserved, fits_kind, is_uid}
+use Rattle.dg_text.specs.Words.{is_whole_name, is_reserved}
+use Rattle.dg_schema.specs.Words.{fits_kind, is_uid}
 use Rattle.dg_schema.specs.Grammar.{distinct}
 use Rattle.dg_schema.specs.Texts.{by_name, schema_text}
 use Rattle.dg_schema.specs.Whole.{schema}

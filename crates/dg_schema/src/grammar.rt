@@ -3,9 +3,11 @@ ghost use Rattle.std.specs.Prelude.{◌≡◌, false, drop, [], ◌∷◌, ◌++
 ghost use Rattle.dg_text.specs.declared.reading.ReadError.TheVariants as errors;
 ghost use Rattle.dg_text.specs.Reading.{Gives, one_as, next, repeated, optional};
 ghost use Rattle.dg_text.specs.Tokens.{toks, is_at, is_punct};
-ghost use Rattle.dg_schema.specs.Words.{kind_meant, tokenizer_meant, directive_meant, predicate_meant};
+ghost use Rattle.dg_text.specs.Words.{predicate_meant};
+ghost use Rattle.dg_schema.specs.Words.{kind_meant, tokenizer_meant, directive_meant};
 ghost use Rattle.dg_schema.specs.Definitions.{is_declared};
-ghost use Rattle.dg_schema.specs.Grammar.{define, stated, statement, statements, begins_statement, unmarked, open_round, comma, scalar, list_type, type_of, comma_tokenizer, tokenizers, index, directive};
+ghost use Rattle.dg_text.specs.Marks.{open_round, comma};
+ghost use Rattle.dg_schema.specs.Grammar.{define, stated, statement, statements, begins_statement, unmarked, scalar, list_type, type_of, comma_tokenizer, tokenizers, index, directive};
 
 use crate::Schema;
 use crate::checks::{definition_of, may_follow};

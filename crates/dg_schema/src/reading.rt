@@ -1,7 +1,8 @@
 // A whole text as a schema.
 ghost use Rattle.std.specs.Prelude.{◌≡◌, ◌≤◌, length, drop, Ok};
 ghost use Rattle.dg_text.specs.Tokens.{toks, AreCut};
-ghost use Rattle.dg_schema.specs.Whole.{line_feeds, line_at, offset_of, schema_of, from_front, schema, Reads};
+ghost use Rattle.dg_text.specs.Places.{offset_of};
+ghost use Rattle.dg_schema.specs.Whole.{line_feeds, line_at, schema_of, from_front, schema, Reads};
 
 use crate::grammar::statements_at;
 use crate::words::Words;

@@ -3,7 +3,9 @@ ghost use Rattle.std.specs.Prelude.{◌≡◌, option_map};
 ghost use Rattle.dg_text.specs.Tokens.{tok};
 ghost use Rattle.dg_values.specs.Order.{tokenizer_rank};
 ghost use Rattle.dg_schema.specs.Texts.{kind_word, tokenizer_word};
-ghost use Rattle.dg_schema.specs.Words.{placed, kind_words, tokenizer_words, directive_words, kind_place, kind_of_word, tokenizer_of_word, directive_of_word, kind_meant, tokenizer_meant, directive_meant, predicate_meant, is_whole_name, is_reserved, fits_kind, default_token, is_uid};
+ghost use Rattle.dg_table.specs.Words.{placed};
+ghost use Rattle.dg_text.specs.Words.{predicate_meant, is_whole_name, is_reserved};
+ghost use Rattle.dg_schema.specs.Words.{kind_words, tokenizer_words, directive_words, kind_place, kind_of_word, tokenizer_of_word, directive_of_word, kind_meant, tokenizer_meant, directive_meant, fits_kind, default_token, is_uid};
 
 use dg_table::{Table, rows};
 use dg_text::reading::{is_a_name, is_an_at, is_an_iri};
@@ -70,7 +72,8 @@ pub struct Words {
 
 impl Model for Words {
     ghost use Rattle.std.specs.Prelude.{◌≡◌};
-    ghost use Rattle.dg_schema.specs.Words.{placed, kind_words, tokenizer_words, directive_words};
+    ghost use Rattle.dg_table.specs.Words.{placed};
+    ghost use Rattle.dg_schema.specs.Words.{kind_words, tokenizer_words, directive_words};
 
     ghost Value = { Unit {0} };
 

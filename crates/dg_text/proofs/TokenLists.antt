@@ -183,30 +183,15 @@ lexed_stops text offset = (stops_before text offset, stopped text offset)
 
 -- ---- as a program reads them, by places
 
-abbrev Answer : Type 0
-Answer = Result (Vec Token Global × ℕ) ReadError
-
 -- the front is what is read after the first gap
 front_after : (text : List ℕ) (first : ℕ) (read : Reads) → skip_gap text ≡ Ok (tt, drop first text) → repeated token_starts (token (length text)) [] (drop first text) ≡ read → front text ≡ read
 unfolding front
 front_after text first read g e = rw g e
 
 -- what was read up to a place
-pub read_tokens : (result : Answer) (text : List ℕ) (first : ℕ) → skip_gap text ≡ Ok (tt, drop first text) → Gives (λ v. v.items) text result (repeated token_starts (token (length text)) [] (drop first text))
-    → IfOk result (λ x. TokensOf text x.0.items (drop x.1 text))
-read_tokens (Ok x) text first g e = tokens_are text x.0.items (drop x.1 text) (front_after text first (Ok (x.0.items, drop x.1 text)) g e)
-read_tokens (Err e) text first g h = tt
-
--- no place is a fault
-never_fails : (text : List ℕ) (place : ℕ) → front text ≡ Err place → ⊥
-never_fails text place e = let a = all_tokens text in (let f : ◌≡◌ {A = Reads} (Ok (a.tokens, a.end)) (Err place) = sym a.read ∙ e in cc)
-
--- only memory can run out
-pub read_fails : (result : Answer) (text : List ℕ) (first : ℕ) → skip_gap text ≡ Ok (tt, drop first text) → Gives (λ v. v.items) text result (repeated token_starts (token (length text)) [] (drop first text))
-    → IfErr result (λ e. e ≡ errors.OutOfMemory)
-read_fails (Ok x) text first g e = tt
-read_fails (Err errors.OutOfMemory) text first g h = refl
-read_fails (Err (errors.Fault place)) text first g h = absurd (never_fails text place (front_after text first (Err place) g h))
+pub read_tokens : (text : List ℕ) (first end : ℕ) (tokens : List Token) → skip_gap text ≡ Ok (tt, drop first text)
+    → repeated token_starts (token (length text)) [] (drop first text) ≡ Ok (tokens, drop end text) → TokensOf text tokens (drop end text)
+read_tokens text first end tokens g e = tokens_are text tokens (drop end text) (front_after text first (Ok (tokens, drop end text)) g e)
 
 -- all was read
 pub read_all : (bytes : List ℕ) (tokens : List Token) (at : ℕ) → length bytes ≤ at → TokensOf bytes tokens (drop at bytes) → TokensOf bytes tokens []

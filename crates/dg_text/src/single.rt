@@ -1,6 +1,7 @@
 // One token of a kind or a word, which every grammar reads.
 ghost use Rattle.std.specs.Prelude.{◌≡◌, drop};
 ghost use Rattle.dg_text.specs.Reading.{Gives, skip, one_as};
+ghost use Rattle.dg_text.specs.Patterns.{regex_meant};
 ghost use Rattle.dg_text.specs.Said.{quoted_meant, uid_meant, int_meant};
 ghost use Rattle.dg_text.specs.Sizes.{AreSmall};
 ghost use Rattle.dg_text.specs.Tokens.{toks, is_caret, is_punct, is_word, is_word_any_case};
@@ -8,7 +9,10 @@ ghost use Rattle.dg_text.specs.Words.{name_meant, predicate_meant};
 
 use crate::kinds::{is_a_caret, is_a_punct, is_a_word, is_a_word_any_case};
 use crate::numbers::{int_of, uid_of};
-use crate::reading::{ReadError, one_at, one_owned_at, one_text_at, peek, skip_at, taken};
+use crate::patterns::regex_of;
+use crate::reading::{
+    ReadError, fault_at, one_at, one_owned_at, one_text_at, peek, skip_at, taken,
+};
 use crate::texts::{owned_name_of, quoted_of};
 use crate::token::Piece;
 use crate::words::{name_of, predicate_of};
@@ -64,7 +68,7 @@ pub fn quoted_at(alloc: Global, tokens: &[Piece], at: usize) -> Result<(Str, usi
     ensures { Gives (λ text. text) (toks tokens.now) result (one_as quoted_meant (drop at (toks tokens.now))) }
 {
     match peek(tokens, at) {
-        None => Err(ReadError::Fault { left: 0 }),
+        None => Err(fault_at(tokens, at)),
         Some(token) => taken(tokens, at, quoted_of(alloc, token)?),
     }
 }
@@ -88,4 +92,15 @@ pub fn owned_name_at(alloc: Global, tokens: &[Piece], at: usize) -> Result<(Str,
     ensures { Gives (λ name. name) (toks tokens.now) result (one_as name_meant (drop at (toks tokens.now))) }
 {
     one_owned_at(tokens, at, |t| owned_name_of(alloc, t))
+}
+
+/// The pattern of a Regex, whether it goes without regard to case, and the place behind it.
+pub fn regex_at(
+    alloc: Global,
+    tokens: &[Piece],
+    at: usize,
+) -> Result<((Str, bool), usize), ReadError>
+    ensures { Gives (λ r. r) (toks tokens.now) result (one_as regex_meant (drop at (toks tokens.now))) }
+{
+    one_owned_at(tokens, at, |t| regex_of(alloc, t))
 }

@@ -1,5 +1,5 @@
 // Texts that tokens say, in memory of their own.
-ghost use Rattle.std.specs.Prelude.{◌≡◌, ◌≤◌, ◌<◌, length, IfOk, IfErr, IfSome};
+ghost use Rattle.std.specs.Prelude.{◌≡◌, ◌≤◌, ◌<◌, ◌++◌, length, IfOk, IfErr, IfSome};
 ghost use Rattle.std.specs.Option.{option_map};
 ghost use Rattle.dg_text.specs.declared.reading.ReadError.TheVariants as errors;
 ghost use Rattle.dg_text.specs.Tokens.{tok};
@@ -22,6 +22,18 @@ pub fn owned(alloc: Global, text: &str) -> Result<Str, ReadError>
 {
     match Str::from_str(alloc, text) {
         Ok(name) => Ok(name),
+        Err(OutOfMemory) => Err(ReadError::OutOfMemory),
+    }
+}
+
+/// A text with more behind it.
+pub fn joined(text: Str, more: &str) -> Result<Str, ReadError>
+    ensures made { IfOk result (λ s. s ≡ text ++ more.now) }
+    ensures memory { IfErr result (λ e. e ≡ errors.OutOfMemory) }
+{
+    let mut text = text;
+    match text.push_str(more) {
+        Ok(()) => Ok(text),
         Err(OutOfMemory) => Err(ReadError::OutOfMemory),
     }
 }

@@ -1,5 +1,5 @@
 use Rattle.std.proofs.lemmas.Str.Pattern.{strip_prefix_char}
-use Rattle.dg_nquad.proofs.Cuts.{after_is}
+use Rattle.dg_text.proofs.Cuts.{after_is}
 use Rattle.dg_nquad.proofs.words.after.Goals as goal
 
 pub returns-clause-rest : goal.returns-clause-rest

@@ -1,5 +1,5 @@
 use Rattle.std.proofs.lemmas.Str.Pattern.{strip_suffix_char}
-use Rattle.dg_nquad.proofs.Cuts.{before_is}
+use Rattle.dg_text.proofs.Cuts.{before_is}
 use Rattle.dg_nquad.proofs.words.before.Goals as goal
 
 pub returns-clause-rest : goal.returns-clause-rest

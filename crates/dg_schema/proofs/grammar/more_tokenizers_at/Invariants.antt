@@ -1,7 +1,8 @@
 use Rattle.std.proofs.Common.{◌≡◌, drop, ◌-◌}
 use Rattle.dg_text.specs.Reading.{next, repeated, turns}
 use Rattle.dg_text.specs.Tokens.{toks, is_punct}
-use Rattle.dg_schema.specs.Grammar.{comma, comma_tokenizer}
+use Rattle.dg_text.specs.Marks.{comma}
+use Rattle.dg_schema.specs.Grammar.{comma_tokenizer}
 use Rattle.dg_schema.proofs.grammar.more_tokenizers_at.Given as goal
 
 abbrev pub invariant-loop : goal.invariant-loop

@@ -3,7 +3,7 @@ use Rattle.std.specs.Prelude.{slice_get}
 use Rattle.std.specs.Option.{option_and_then}
 use Rattle.dg_schema.specs.Words.{tokenizer_words}
 use Rattle.dg_schema.specs.declared.words.TheConstants.{TOKENIZERS}
-use Rattle.dg_schema.proofs.WordTables.{means}
+use Rattle.dg_table.proofs.WordLemmas.{means}
 use Rattle.dg_schema.proofs.words.Words.tokenizer_named.Goals as goal
 
 pub returns-in_err-code : goal.returns-in_err-code

@@ -1,4 +1,5 @@
-use Rattle.dg_schema.proofs.WordTables.{tokenizer_there, has_name, name_is}
+use Rattle.dg_table.proofs.WordLemmas.{has_name, name_is}
+use Rattle.dg_schema.proofs.WordTables.{tokenizer_there}
 use Rattle.dg_schema.proofs.words.Words.tokenizer_word.Goals as goal
 
 pub unwrap-requires : goal.unwrap-requires
