@@ -3,6 +3,7 @@ use Rattle.std.specs.Prelude.{ℕ, Bool, true, false, ◌||◌, ◌&&◌, not, L
 use Rattle.std.specs.List.{list_any, list_all}
 use Rattle.dg_text.specs.Reading as reading
 use Rattle.dg_text.specs.Reading.{◌>>=◌, ◌>>◌, Read, give, here, refuse_at, next, skip, one_as, choose, optional, repeated}
+use Rattle.dg_text.specs.Marks.{colon, comma, dot, open_round, close_round, open_square, close_square}
 use Rattle.dg_text.specs.Tokens.{Tok, is_name, is_iri, is_punct, is_at}
 use Rattle.dg_values.specs.Order.{tokenizer_rank}
 use Rattle.dg_values.specs.declared.kind.Kind.{Kind}
@@ -20,34 +21,6 @@ use Rattle.dg_schema.specs.Words.{kind_meant, tokenizer_meant, directive_meant, 
 -- what is read of the tokens that are left
 abbrev Reader : Type 0 → Type 0
 Reader A = reading.Reader (List Tok) A
-
--- the byte of `:`
-abbrev pub colon : ℕ
-colon = 58
-
--- the byte of `,`
-abbrev pub comma : ℕ
-comma = 44
-
--- the byte of `.`
-abbrev pub dot : ℕ
-dot = 46
-
--- the byte of `(`
-abbrev pub open_round : ℕ
-open_round = 40
-
--- the byte of `)`
-abbrev pub close_round : ℕ
-close_round = 41
-
--- the byte of `[`
-abbrev pub open_square : ℕ
-open_square = 91
-
--- the byte of `]`
-abbrev pub close_square : ℕ
-close_square = 93
 
 -- scalar
 abbrev pub scalar : Bool → Reader Shape

@@ -3,6 +3,7 @@ use Rattle.std.specs.Prelude.{ℕ, ◌+◌, ◌-◌, ◌&&◌, ◌==◌, List, [
 use Rattle.dg_text.specs.Reading.{Read}
 use Rattle.dg_text.specs.Tokens.{Tok, toks_of}
 use Rattle.dg_text.specs.Lexing.{front}
+use Rattle.dg_text.specs.Places.{offset_of}
 use Rattle.dg_text.specs.declared.token.Token.{Token}
 use Rattle.dg_schema.specs.declared.definition.PredDef.{PredDef}
 use Rattle.dg_schema.specs.declared.fault.SchemaFault.{SchemaFault}
@@ -17,15 +18,6 @@ line_feeds (b ∷ rest) = if b == 10 then 1 + line_feeds rest else line_feeds re
 -- the line of an offset, from 1
 abbrev pub line_at : List ℕ → ℕ → ℕ
 line_at text offset = 1 + line_feeds (take offset text)
-
--- where the next token starts, or else the tokens end
-abbrev pub start_of : List Tok → ℕ → ℕ
-start_of [] end = end
-start_of (token ∷ rest) end = token.start
-
--- the offset of a place
-abbrev pub offset_of : List Tok → ℕ → ℕ → ℕ
-offset_of tokens end place = start_of (drop (length tokens - place) tokens) end
 
 -- The tokens of a text end at end, which is the end of the text or the first byte where no token starts: such a byte is
 -- an offending token.

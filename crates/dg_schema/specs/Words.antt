@@ -1,20 +1,13 @@
 -- The words of the schema language.
-use Rattle.std.specs.Prelude.{ℕ, suc, Bool, true, false, ◌||◌, ◌&&◌, not, List, [], ◌∷◌, Option, Some, None, codes, if◌then◌else◌, length, ◌==◌, nat_le}
-use Rattle.std.specs.Str.{bytes_eq}
-use Rattle.dg_table.specs.Rows.{Row}
-use Rattle.dg_text.specs.Tokens.{Tok, is_name, is_iri, is_at}
-use Rattle.dg_text.specs.Forms.{name_len}
+use Rattle.std.specs.Prelude.{ℕ, Bool, true, false, List, [], ◌∷◌, Option, Some, None, codes, if◌then◌else◌}
+use Rattle.dg_table.specs.Words.{named_in}
+use Rattle.dg_text.specs.Tokens.{Tok, is_name, is_at}
 use Rattle.dg_values.specs.declared.kind.Kind.{Kind}
 use Rattle.dg_values.specs.declared.kind.Kind.TheVariants as kinds
 use Rattle.dg_values.specs.declared.kind.Tokenizer.{Tokenizer}
 use Rattle.dg_values.specs.declared.kind.Tokenizer.TheVariants as tokenizers
 use Rattle.dg_schema.specs.declared.words.Directive.{Directive}
 use Rattle.dg_schema.specs.declared.words.Directive.TheVariants as directives
-
--- what the first row of that word names
-abbrev pub named_in : {A : Type 0} → List (List ℕ × A) → List ℕ → Option A
-named_in [] word = None
-named_in (row ∷ rows) word = if bytes_eq word row.0 then Some row.1 else named_in rows word
 
 -- the words of kinds
 abbrev pub kind_words : List (List ℕ × Kind)
@@ -48,11 +41,6 @@ tokenizer_of_word = named_in tokenizer_words
 abbrev pub directive_of_word : List ℕ → Option Directive
 directive_of_word = named_in directive_words
 
--- each word with the place of its row, from a place on
-abbrev pub placed : {A : Type 0} → ℕ → List (List ℕ × A) → List Row
-placed place [] = []
-placed place (row ∷ rows) = (row.0, place) ∷ placed (suc place) rows
-
 -- the place of a kind among the kinds
 abbrev pub kind_place : Kind → ℕ
 kind_place kinds.Default = 0
@@ -73,20 +61,6 @@ tokenizer_meant token = if is_name token then tokenizer_of_word token.text else 
 -- an At that is a directive
 abbrev pub directive_meant : Tok → Option Directive
 directive_meant token = if is_at token then directive_of_word token.text else None
-
--- all of the text is one Name
-abbrev pub is_whole_name : List ℕ → Bool
-is_whole_name text = not (name_len text == 0) && (name_len text == length text) && nat_le (name_len text) 64
-
--- The predicate that a Name stands for, or an Iri with a Name in it. The text of an Iri is what stands between < and >.
-abbrev pub predicate_meant : Tok → Option (List ℕ)
-predicate_meant token = if is_name token || (is_iri token && is_whole_name token.text) then Some token.text else None
-
--- names that the query language keeps for itself
-abbrev pub is_reserved : List ℕ → Bool
-is_reserved word =
-    bytes_eq word (codes "uid") || bytes_eq word (codes "count") || bytes_eq word (codes "val") || bytes_eq word (codes "min")
-    || bytes_eq word (codes "max") || bytes_eq word (codes "sum") || bytes_eq word (codes "as") || bytes_eq word (codes "expand")
 
 -- the tokenizer is one of the kind's
 abbrev pub fits_kind : Kind → Tokenizer → Bool

@@ -6,9 +6,10 @@ ghost use Rattle.dg_schema.specs.Words.{fits_kind};
 ghost use Rattle.dg_schema.specs.Grammar.{same_tokenizer, is_in, distinct, is_indexable, is_allowed, index_of, define};
 
 use crate::statement::{Marks, Statement};
-use crate::words::{default_of, fits, is_reserved_name, is_uid_kind};
+use crate::words::{default_of, fits, is_uid_kind};
 use crate::{PredDef, Schema};
 use dg_text::ReadError;
+use dg_text::words::is_reserved;
 use dg_values::{Kind, List, Tokenizer};
 
 // Whether two tokenizers are one.
@@ -73,7 +74,7 @@ pub fn may_follow(earlier: &Schema, statement: &Statement) -> bool
 {
     let marks = &statement.marks;
     let kind = statement.shape.kind;
-    !is_reserved_name(statement.name.as_str())
+    !is_reserved(statement.name.as_str())
         && earlier.lookup(statement.name.as_str()).is_none()
         && !marks.twice
         && (!marks.indexed || may_be_indexed(kind, marks.tokens.as_slice()))

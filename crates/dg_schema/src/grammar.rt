@@ -3,7 +3,6 @@ ghost use Rattle.std.specs.Prelude.{◌≡◌, false, drop, [], ◌∷◌, ◌++
 ghost use Rattle.dg_text.specs.declared.reading.ReadError.TheVariants as errors;
 ghost use Rattle.dg_text.specs.Reading.{Gives, one_as, next, repeated, optional};
 ghost use Rattle.dg_text.specs.Tokens.{toks, is_at, is_punct};
-ghost use Rattle.dg_text.specs.Words.{predicate_meant};
 ghost use Rattle.dg_schema.specs.Words.{kind_meant, tokenizer_meant, directive_meant};
 ghost use Rattle.dg_schema.specs.Definitions.{is_declared};
 ghost use Rattle.dg_text.specs.Marks.{open_round, comma};
@@ -12,40 +11,28 @@ ghost use Rattle.dg_schema.specs.Grammar.{define, stated, statement, statements,
 use crate::Schema;
 use crate::checks::{definition_of, may_follow};
 use crate::statement::{Marks, Shape, Statement};
-use crate::words::{Directive, Words, predicate_of};
-use dg_text::reading::{is_a_name, is_an_iri, left, next_is_at, next_is_punct, peek, punct};
+use crate::words::{Directive, Words};
+use dg_text::choices::{next_is_at, next_is_punct};
+use dg_text::kinds::{is_a_name, is_an_iri};
+use dg_text::reading::{left, one_at, peek};
+use dg_text::single::{predicate_at, punct};
+use dg_text::texts::owned;
 use dg_text::{Piece, ReadError};
-use dg_values::{Kind, List, OutOfMemory, Str, Tokenizer};
+use dg_values::{Kind, List, OutOfMemory, Tokenizer};
 use std::alloc::Global;
 
 // The kind that the next token names, and the place behind it.
 fn kind_at(words: &Words, tokens: &[Piece], at: usize) -> Result<(Kind, usize), ReadError>
     ensures { Gives (λ kind. kind) (toks tokens.now) result (one_as kind_meant (drop at (toks tokens.now))) }
 {
-    match peek(tokens, at) {
-        None => Err(ReadError::Fault { left: 0 }),
-        Some(token) => match words.kind_of(token) {
-            Some(kind) => Ok((kind, at + 1)),
-            None => Err(ReadError::Fault {
-                left: left(tokens, at),
-            }),
-        },
-    }
+    one_at(tokens, at, |t| words.kind_of(t))
 }
 
 // The tokenizer that the next token names, and the place behind it.
 fn tokenizer_at(words: &Words, tokens: &[Piece], at: usize) -> Result<(Tokenizer, usize), ReadError>
     ensures { Gives (λ tokenizer. tokenizer) (toks tokens.now) result (one_as tokenizer_meant (drop at (toks tokens.now))) }
 {
-    match peek(tokens, at) {
-        None => Err(ReadError::Fault { left: 0 }),
-        Some(token) => match words.tokenizer_of(token) {
-            Some(tokenizer) => Ok((tokenizer, at + 1)),
-            None => Err(ReadError::Fault {
-                left: left(tokens, at),
-            }),
-        },
-    }
+    one_at(tokens, at, |t| words.tokenizer_of(t))
 }
 
 // The directive that the next token is, and the place behind it.
@@ -56,30 +43,7 @@ fn directive_word_at(
 ) -> Result<(Directive, usize), ReadError>
     ensures { Gives (λ word. word) (toks tokens.now) result (one_as directive_meant (drop at (toks tokens.now))) }
 {
-    match peek(tokens, at) {
-        None => Err(ReadError::Fault { left: 0 }),
-        Some(token) => match words.directive_of(token) {
-            Some(word) => Ok((word, at + 1)),
-            None => Err(ReadError::Fault {
-                left: left(tokens, at),
-            }),
-        },
-    }
-}
-
-// The predicate that the next token stands for, and the place behind it.
-fn predicate_at<'a, 'b>(tokens: &'b [Piece<'a>], at: usize) -> Result<(&'a str, usize), ReadError>
-    ensures { Gives (λ name. name.now) (toks tokens.now) result (one_as predicate_meant (drop at (toks tokens.now))) }
-{
-    match peek(tokens, at) {
-        None => Err(ReadError::Fault { left: 0 }),
-        Some(token) => match predicate_of(token) {
-            Some(name) => Ok((name, at + 1)),
-            None => Err(ReadError::Fault {
-                left: left(tokens, at),
-            }),
-        },
-    }
+    one_at(tokens, at, |t| words.directive_of(t))
 }
 
 // A scalar, which may stand in a list.
@@ -272,17 +236,6 @@ fn directives_at(
     Ok((marks, at))
 }
 
-// A text of its own.
-fn owned(alloc: Global, text: &str) -> Result<Str, ReadError>
-    ensures made { IfOk result (λ name. name ≡ text.now) }
-    ensures memory { IfErr result (λ e. e ≡ errors.OutOfMemory) }
-{
-    match Str::from_str(alloc, text) {
-        Ok(name) => Ok(name),
-        Err(OutOfMemory) => Err(ReadError::OutOfMemory),
-    }
-}
-
 // A statement up to its point.
 #[tactic(auto, unfolding(crate::specs::Grammar::stated))]
 fn stated_at(
@@ -347,10 +300,7 @@ fn statement_at(
 fn statement_begins(tokens: &[Piece], at: usize) -> bool
     ensures { result ≡ begins_statement (drop at (toks tokens.now)) }
 {
-    match peek(tokens, at) {
-        None => false,
-        Some(token) => is_a_name(token) || is_an_iri(token),
-    }
+    peek(tokens, at).is_some_and(|t| is_a_name(t) || is_an_iri(t))
 }
 
 /// The definitions that the statements from a place on make, up to the first token that begins none, and its place.

@@ -1,15 +1,17 @@
 // A whole text as a schema.
 ghost use Rattle.std.specs.Prelude.{◌≡◌, ◌≤◌, length, drop, Ok};
 ghost use Rattle.dg_text.specs.Tokens.{toks, AreCut};
-ghost use Rattle.dg_text.specs.Places.{offset_of};
+ghost use Rattle.dg_text.specs.Sizes.{AreSmall};
 ghost use Rattle.dg_schema.specs.Whole.{line_feeds, line_at, schema_of, from_front, schema, Reads};
 
 use crate::grammar::statements_at;
 use crate::words::Words;
 use crate::{Schema, SchemaFault};
 use dg_text::pieces::pieces;
-use dg_text::reading::{left, peek};
+use dg_text::places::offset_at;
+use dg_text::reading::left;
 use dg_text::{Piece, ReadError, Token, front};
+use dg_values::OutOfMemory;
 use std::alloc::{AllocError, Global};
 
 // How many line feeds stand in a text.
@@ -29,24 +31,13 @@ fn count_line_feeds(bytes: &[u8]) -> u32
 }
 
 // The line of an offset, from 1.
-fn line_of(text: &str, offset: usize) -> u32
+fn line_of(text: &str, offset: u32) -> u32
     requires { length text.now ≤ 1048576 }
     ensures { result ≡ line_at text.now offset }
 {
     let bytes = text.as_bytes();
-    let end = offset.min(bytes.len());
+    let end = (offset as usize).min(bytes.len());
     1 + count_line_feeds(&bytes[..end])
-}
-
-// The offset of the token from which on so many are left.
-fn offset_at(tokens: &[Piece], end: usize, place: usize) -> usize
-    ensures { result ≡ offset_of (toks tokens.now) end place }
-{
-    let at = left(tokens, 0).saturating_sub(place);
-    match peek(tokens, at) {
-        None => end,
-        Some(token) => token.start,
-    }
 }
 
 // The schema that tokens say, where they end at a place of the text.
@@ -57,7 +48,9 @@ fn read_tokens(
     tokens: &[Piece],
     end: usize,
 ) -> Result<Schema, SchemaFault>
-    requires { length text.now ≤ 1048576 }
+    requires size { length text.now ≤ 1048576 }
+    requires small { AreSmall (toks tokens.now) }
+    requires end { end ≤ length text.now }
     ensures { Reads result (schema_of text.now (toks tokens.now) end) }
 {
     match statements_at(alloc, words, tokens, 0) {
@@ -79,7 +72,7 @@ fn read_tokens(
 }
 
 // The schema that the tokens at the front of a text say.
-#[tactic(auto, using(crate::proofs::Lines::left_from))]
+#[tactic(auto, using(crate::proofs::Lines::left_from, dg_text::proofs::Small::are_small))]
 fn read_front(
     alloc: Global,
     words: &Words,
@@ -108,9 +101,6 @@ pub fn read_schema(alloc: Global, text: &str) -> Result<Schema, SchemaFault>
 {
     match front(alloc, text.as_bytes()) {
         Ok((tokens, end)) => read_front(alloc, &Words::new(), text, tokens.as_slice(), end),
-        Err(ReadError::OutOfMemory) => Err(SchemaFault::OutOfMemory),
-        Err(ReadError::Fault { left }) => Err(SchemaFault::SchemaSyntax {
-            line: line_of(text, text.len().saturating_sub(left)),
-        }),
+        Err(OutOfMemory) => Err(SchemaFault::OutOfMemory),
     }
 }

@@ -8,8 +8,8 @@ ghost use Rattle.dg_text.specs.Words.{predicate_meant, is_whole_name, is_reserve
 ghost use Rattle.dg_schema.specs.Words.{kind_words, tokenizer_words, directive_words, kind_place, kind_of_word, tokenizer_of_word, directive_of_word, kind_meant, tokenizer_meant, directive_meant, fits_kind, default_token, is_uid};
 
 use dg_table::{Table, rows};
-use dg_text::reading::{is_a_name, is_an_at, is_an_iri};
-use dg_text::{Piece, name_len};
+use dg_text::Piece;
+use dg_text::kinds::{is_a_name, is_an_at};
 use dg_values::{Kind, Tokenizer};
 use std::marker::Model;
 
@@ -226,40 +226,6 @@ impl Words {
         let code = self.directives.find(word)?;
         DIRECTIVES.get(code as usize).copied()
     }
-}
-
-/// The predicate that a Name stands for, or an Iri with a Name in it.
-pub fn predicate_of<'a>(token: &Piece<'a>) -> Option<&'a str>
-    ensures { option_map (λ name. name.now) result ≡ predicate_meant (tok token.now) }
-{
-    if is_a_name(token) || (is_an_iri(token) && is_whole_name_of(token.text)) {
-        Some(token.text)
-    } else {
-        None
-    }
-}
-
-// Whether all of the text is one Name.
-fn is_whole_name_of(text: &str) -> bool
-    ensures { result ≡ is_whole_name text.now }
-{
-    let bytes = text.as_bytes();
-    let len = name_len(bytes, 0);
-    len != 0 && len == bytes.len() && len <= 64
-}
-
-/// Whether the query language keeps a name for itself.
-pub fn is_reserved_name(word: &str) -> bool
-    ensures { result ≡ is_reserved word.now }
-{
-    word == "uid"
-        || word == "count"
-        || word == "val"
-        || word == "min"
-        || word == "max"
-        || word == "sum"
-        || word == "as"
-        || word == "expand"
 }
 
 /// Whether a tokenizer is one of the kind's.
