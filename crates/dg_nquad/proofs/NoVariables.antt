@@ -16,7 +16,7 @@ use Rattle.dg_nquad.specs.declared.mutation.Mutation.{Mutation}
 use Rattle.dg_nquad.specs.declared.mutation.Node.TheVariants as nodes
 use Rattle.dg_nquad.specs.declared.mutation.Object.TheVariants as objects
 use Rattle.dg_nquad.specs.declared.mutation.Statement.{Statement}
-use Rattle.dg_nquad.specs.Grammar as grammar
+use Rattle.dg_text.specs.Marks as marks
 use Rattle.dg_nquad.specs.Grammar.{variable, uid_variable, node, type_tag, literal, val_variable, all_objects, node_object, object, statement, statements, group, groups, body, begins_statement, begins_group, is_label, plain_set}
 use Rattle.dg_nquad.specs.Plain.{IsNamed, IsNoVariable, HasNoVariable}
 use Rattle.dg_text.specs.Places.{offset_of}
@@ -96,7 +96,7 @@ no_variable : (word : List ℕ) (left : List Tok) → IfRead Never (variable wor
 unfolding variable
 no_variable word left =
     in_turn Any Never (skip (is_word word) left) _ (any (skip (is_word word) left))
-    (λ _ _ after. in_turn Any Never (skip (is_punct grammar.open_round) after) _ (any (skip (is_punct grammar.open_round) after)) (λ _ _ _. tt))
+    (λ _ _ after. in_turn Any Never (skip (is_punct marks.open_round) after) _ (any (skip (is_punct marks.open_round) after)) (λ _ _ _. tt))
 
 no_uid_variable : (delete : Bool) (left : List Tok) → IfRead Never (uid_variable (record { delete = delete; upsert = false }) left)
 unfolding uid_variable
@@ -123,7 +123,7 @@ no_val_variable delete left = in_turn Never Never (variable (codes "val") false 
 
 star_named : (left : List Tok) → IfRead IsNoVariable (all_objects left)
 unfolding all_objects
-star_named left = in_turn Any IsNoVariable (skip (is_punct grammar.star) left) _ (any (skip (is_punct grammar.star) left)) (λ _ _ _. tt)
+star_named left = in_turn Any IsNoVariable (skip (is_punct marks.star) left) _ (any (skip (is_punct marks.star) left)) (λ _ _ _. tt)
 
 node_object_named : (delete : Bool) (left : List Tok) → IfRead IsNoVariable (node_object (record { delete = delete; upsert = false }) left)
 unfolding node_object
@@ -137,7 +137,7 @@ object_named delete left =
     (literal_named left)
     (one_of IsNoVariable (next (is_word (codes "val")) left) (val_variable block left) _
     (none IsNoVariable (val_variable block left) (no_val_variable delete left))
-    (one_of IsNoVariable (delete && next (is_punct grammar.star) left) (all_objects left) (node_object block left) (star_named left) (node_object_named delete left)))
+    (one_of IsNoVariable (delete && next (is_punct marks.star) left) (all_objects left) (node_object block left) (star_named left) (node_object_named delete left)))
 
 -- ---- statements
 
@@ -152,7 +152,7 @@ statement_named delete before all left =
     (λ s named l1. in_turn Any NoneHasVariable (one_as predicate_meant l1) _ (any (one_as predicate_meant l1))
     (λ p _ l2. in_turn IsNoVariable NoneHasVariable (object block l2) _ (object_named delete l2)
     (λ o object_is l3. in_turn Any NoneHasVariable (optional (next is_label) (skip is_label) tt l3) _ (any (optional (next is_label) (skip is_label) tt l3))
-    (λ _ _ l4. in_turn Any NoneHasVariable (skip (is_punct grammar.dot) l4) _ (any (skip (is_punct grammar.dot) l4))
+    (λ _ _ l4. in_turn Any NoneHasVariable (skip (is_punct marks.dot) l4) _ (any (skip (is_punct marks.dot) l4))
     (λ _ _ l5. all_by_recursion_push HasNoVariable before (record { delete = delete; s = s; p = p; o = o }) all (named, object_is))))))
 
 statements_named : (delete : Bool) (before : List Statement) → NoneHasVariable before → (left : List Tok) → IfRead NoneHasVariable (statements (record { delete = delete; upsert = false }) before left)
@@ -164,23 +164,23 @@ group_named : (before : List Statement) → NoneHasVariable before → (left : L
 unfolding group
 group_named before all left =
     in_turn Any NoneHasVariable (one_as group_meant left) _ (any (one_as group_meant left))
-    (λ delete _ l1. in_turn Any NoneHasVariable (skip (is_punct grammar.open_curly) l1) _ (any (skip (is_punct grammar.open_curly) l1))
+    (λ delete _ l1. in_turn Any NoneHasVariable (skip (is_punct marks.open_curly) l1) _ (any (skip (is_punct marks.open_curly) l1))
     (λ _ _ l2. in_turn NoneHasVariable NoneHasVariable (statements (record { delete = delete; upsert = false }) before l2) _ (statements_named delete before all l2)
-    (λ more named l3. in_turn Any NoneHasVariable (skip (is_punct grammar.close_curly) l3) _ (any (skip (is_punct grammar.close_curly) l3))
+    (λ more named l3. in_turn Any NoneHasVariable (skip (is_punct marks.close_curly) l3) _ (any (skip (is_punct marks.close_curly) l3))
     (λ _ _ _. named))))
 
 groups_named : (left : List Tok) → IfRead NoneHasVariable (groups false left)
 unfolding groups
 groups_named left =
-    in_turn Any NoneHasVariable (skip (is_punct grammar.open_curly) left) _ (any (skip (is_punct grammar.open_curly) left))
+    in_turn Any NoneHasVariable (skip (is_punct marks.open_curly) left) _ (any (skip (is_punct marks.open_curly) left))
     (λ _ _ l1. in_turn NoneHasVariable NoneHasVariable (repeated begins_group (group false) [] l1) _ (turned NoneHasVariable begins_group (group false) group_named (length l1) [] tt l1)
-    (λ more named l2. in_turn Any NoneHasVariable (skip (is_punct grammar.close_curly) l2) _ (any (skip (is_punct grammar.close_curly) l2))
+    (λ more named l2. in_turn Any NoneHasVariable (skip (is_punct marks.close_curly) l2) _ (any (skip (is_punct marks.close_curly) l2))
     (λ _ _ _. named)))
 
 body_named : (left : List Tok) → IfRead NoneHasVariable (body left)
 unfolding body
 body_named left =
-    one_of NoneHasVariable (next (is_punct grammar.open_curly) left) (groups false left) (statements plain_set [] left)
+    one_of NoneHasVariable (next (is_punct marks.open_curly) left) (groups false left) (statements plain_set [] left)
     (groups_named left)
     (statements_named false [] tt left)
 

@@ -2,6 +2,7 @@
 use Rattle.std.specs.Prelude.{ℕ, Bool, false, ◌||◌, ◌&&◌, not, List, [], ◌∷◌, ◌++◌, Option, Some, None, is_some, codes}
 use Rattle.dg_text.specs.Reading as reading
 use Rattle.dg_text.specs.Reading.{◌>>=◌, ◌>>◌, give, here, refuse_at, next, skip, one_as, choose, optional, repeated}
+use Rattle.dg_text.specs.Marks.{open_round, close_round, open_curly, close_curly, star, dot}
 use Rattle.dg_text.specs.Tokens.{Tok, is_iri, is_punct, is_word, is_blank, is_quoted, is_caret}
 use Rattle.dg_values.specs.declared.kind.Kind.{Kind}
 use Rattle.dg_nquad.specs.declared.block.Block.{Block}
@@ -17,30 +18,6 @@ use Rattle.dg_nquad.specs.Words.{node_meant, kind_meant, group_meant}
 -- what is read of the tokens that are left
 abbrev Reader : Type 0 → Type 0
 Reader A = reading.Reader (List Tok) A
-
--- the byte of `(`
-abbrev pub open_round : ℕ
-open_round = 40
-
--- the byte of `)`
-abbrev pub close_round : ℕ
-close_round = 41
-
--- the byte of `{`
-abbrev pub open_curly : ℕ
-open_curly = 123
-
--- the byte of `}`
-abbrev pub close_curly : ℕ
-close_curly = 125
-
--- the byte of `*`
-abbrev pub star : ℕ
-star = 42
-
--- the byte of `.`
-abbrev pub dot : ℕ
-dot = 46
 
 -- word "(" Name ")", which is refused at the word where no variable may stand, once its bracket is read
 unfoldable pub variable : List ℕ → Bool → Reader (List ℕ)

@@ -3,5 +3,4 @@ pub mod Words
 pub mod Grammar
 pub mod Whole
 pub mod Plain
-pub mod Sizes
 pub mod Laws

@@ -3,21 +3,13 @@ use Rattle.std.specs.Prelude.{ℕ, ◌-◌, ◌==◌, List, [], ◌∷◌, lengt
 use Rattle.dg_text.specs.Reading.{Read}
 use Rattle.dg_text.specs.Tokens.{Tok, toks_of}
 use Rattle.dg_text.specs.Lexing.{lexed}
+use Rattle.dg_text.specs.Places.{offset_of}
 use Rattle.dg_text.specs.declared.token.Token.{Token}
 use Rattle.dg_nquad.specs.declared.fault.NquadFault.{NquadFault}
 use Rattle.dg_nquad.specs.declared.fault.NquadFault.TheVariants as faults
 use Rattle.dg_nquad.specs.declared.mutation.Mutation.{Mutation}
 use Rattle.dg_nquad.specs.declared.mutation.Statement.{Statement}
 use Rattle.dg_nquad.specs.Grammar.{body}
-
--- where the next token starts, or else the text ends
-abbrev pub start_of : List Tok → ℕ → ℕ
-start_of [] end = end
-start_of (token ∷ rest) end = token.start
-
--- the offset of a place, which is how many tokens are left from there
-abbrev pub offset_of : List Tok → ℕ → ℕ → ℕ
-offset_of tokens end place = start_of (drop (length tokens - place) tokens) end
 
 -- what was read, where nothing is left, and else the offset of the offending token or the end
 abbrev pub outcome : List Tok → ℕ → Read (List Tok) (List Statement) → Result (List Statement) NquadFault

@@ -9,93 +9,30 @@ ghost use Rattle.dg_text.specs.Said.{quoted_meant};
 ghost use Rattle.dg_nquad.specs.Words.{node_meant, kind_meant, group_meant};
 
 use crate::block::Block;
-use crate::terms::{node_of, owned, quoted_of};
-use crate::tokens::{
-    caret_at, is_a_blank, is_a_quoted, is_a_word, next_is_caret, next_is_quoted, next_is_word,
-    word_at,
-};
-use crate::words::{group_of, kind_of, name_of, predicate_of};
+use crate::terms::node_of;
+use crate::words::{group_of, kind_of};
 use crate::{Node, Object, Statement};
-use dg_text::reading::{is_an_iri, left, next_is_punct, peek, punct};
+use dg_text::choices::{next_is_caret, next_is_punct, next_is_quoted, next_is_word};
+use dg_text::kinds::{is_a_blank, is_a_quoted, is_a_word, is_an_iri};
+use dg_text::reading::{left, one_at, one_owned_at, peek};
+use dg_text::single::{caret_at, owned_name_at, predicate_at, punct, quoted_at, word_at};
+use dg_text::texts::owned;
 use dg_text::{Piece, ReadError};
 use dg_values::{Kind, List, Str};
 use std::alloc::Global;
-
-// The characters of the next token, which is a Name, and the place behind it.
-fn name_at<'a, 'b>(tokens: &'b [Piece<'a>], at: usize) -> Result<(&'a str, usize), ReadError>
-    ensures { Gives (λ name. name.now) (toks tokens.now) result (one_as name_meant (drop at (toks tokens.now))) }
-{
-    match peek(tokens, at) {
-        None => Err(ReadError::Fault { left: 0 }),
-        Some(token) => match name_of(token) {
-            Some(name) => Ok((name, at + 1)),
-            None => Err(ReadError::Fault {
-                left: left(tokens, at),
-            }),
-        },
-    }
-}
-
-// The predicate that the next token stands for, and the place behind it.
-fn predicate_at<'a, 'b>(tokens: &'b [Piece<'a>], at: usize) -> Result<(&'a str, usize), ReadError>
-    ensures { Gives (λ name. name.now) (toks tokens.now) result (one_as predicate_meant (drop at (toks tokens.now))) }
-{
-    match peek(tokens, at) {
-        None => Err(ReadError::Fault { left: 0 }),
-        Some(token) => match predicate_of(token) {
-            Some(name) => Ok((name, at + 1)),
-            None => Err(ReadError::Fault {
-                left: left(tokens, at),
-            }),
-        },
-    }
-}
 
 // The kind that the next token names as a type, and the place behind it.
 fn kind_at(tokens: &[Piece], at: usize) -> Result<(Kind, usize), ReadError>
     ensures { Gives (λ kind. kind) (toks tokens.now) result (one_as kind_meant (drop at (toks tokens.now))) }
 {
-    match peek(tokens, at) {
-        None => Err(ReadError::Fault { left: 0 }),
-        Some(token) => match kind_of(token) {
-            Some(kind) => Ok((kind, at + 1)),
-            None => Err(ReadError::Fault {
-                left: left(tokens, at),
-            }),
-        },
-    }
+    one_at(tokens, at, |t| kind_of(t))
 }
 
 // Whether the group of the next word deletes, and the place behind the word.
 fn group_word_at(tokens: &[Piece], at: usize) -> Result<(bool, usize), ReadError>
     ensures { Gives (λ delete. delete) (toks tokens.now) result (one_as group_meant (drop at (toks tokens.now))) }
 {
-    match peek(tokens, at) {
-        None => Err(ReadError::Fault { left: 0 }),
-        Some(token) => match group_of(token) {
-            Some(delete) => Ok((delete, at + 1)),
-            None => Err(ReadError::Fault {
-                left: left(tokens, at),
-            }),
-        },
-    }
-}
-
-// The text that the next token says, which is a Quoted, and the place behind it.
-#[tactic(auto, using(crate::proofs::Small::next_text))]
-fn quoted_at(alloc: Global, tokens: &[Piece], at: usize) -> Result<(Str, usize), ReadError>
-    requires { AreSmall (toks tokens.now) }
-    ensures { Gives (λ text. text) (toks tokens.now) result (one_as quoted_meant (drop at (toks tokens.now))) }
-{
-    match peek(tokens, at) {
-        None => Err(ReadError::Fault { left: 0 }),
-        Some(token) => match quoted_of(alloc, token)? {
-            Some(text) => Ok((text, at + 1)),
-            None => Err(ReadError::Fault {
-                left: left(tokens, at),
-            }),
-        },
-    }
+    one_at(tokens, at, |t| group_of(t))
 }
 
 // The node that the next token names, and the place behind it.
@@ -107,15 +44,7 @@ fn plain_node_at(
 ) -> Result<(Node, usize), ReadError>
     ensures { Gives (λ node. node) (toks tokens.now) result (one_as (node_meant delete) (drop at (toks tokens.now))) }
 {
-    match peek(tokens, at) {
-        None => Err(ReadError::Fault { left: 0 }),
-        Some(token) => match node_of(alloc, delete, token)? {
-            Some(node) => Ok((node, at + 1)),
-            None => Err(ReadError::Fault {
-                left: left(tokens, at),
-            }),
-        },
-    }
+    one_owned_at(tokens, at, |t| node_of(alloc, delete, t))
 }
 
 // The name of the variable between the brackets behind a word. Where no variable may stand, the fault is at the word.
@@ -136,9 +65,8 @@ fn variable_at(
             left: left(tokens, start),
         });
     }
-    let (name, at) = name_at(tokens, at)?;
+    let (name, at) = owned_name_at(alloc, tokens, at)?;
     let (_, at) = punct(tokens, at, b')')?;
-    let name = owned(alloc, name)?;
     Ok((name, at))
 }
 
@@ -311,10 +239,7 @@ fn statement_at(
 fn statement_begins(tokens: &[Piece], at: usize) -> bool
     ensures { result ≡ spec.begins_statement (drop at (toks tokens.now)) }
 {
-    match peek(tokens, at) {
-        None => false,
-        Some(token) => is_an_iri(token) || is_a_blank(token) || is_a_word(token, "uid"),
-    }
+    peek(tokens, at).is_some_and(|t| is_an_iri(t) || is_a_blank(t) || is_a_word(t, "uid"))
 }
 
 /// The statements before with those from a place on, up to the first token that begins none, and its place.
@@ -343,9 +268,9 @@ pub fn statements_at(
     Ok((all, at))
 }
 
-// The statements before with those of the next group.
+/// The statements before with those of the next group.
 #[tactic(auto, unfolding(crate::specs::Grammar::group))]
-fn group_at(
+pub fn group_at(
     alloc: Global,
     upsert: bool,
     before: List<Statement>,
@@ -362,14 +287,11 @@ fn group_at(
     Ok((all, at))
 }
 
-// Whether a group begins at the place.
-fn group_begins(tokens: &[Piece], at: usize) -> bool
+/// Whether a group begins at the place.
+pub fn group_begins(tokens: &[Piece], at: usize) -> bool
     ensures { result ≡ spec.begins_group (drop at (toks tokens.now)) }
 {
-    match peek(tokens, at) {
-        None => false,
-        Some(token) => group_of(token).is_some(),
-    }
+    peek(tokens, at).is_some_and(|t| group_of(t).is_some())
 }
 
 // The statements of all groups from a place on.
@@ -397,9 +319,9 @@ fn more_groups_at(
     Ok((all, at))
 }
 
-// The statements of the groups between `{` and `}`.
+/// The statements of the groups between `{` and `}`.
 #[tactic(auto, unfolding(crate::specs::Grammar::groups))]
-fn groups_at(
+pub fn groups_at(
     alloc: Global,
     upsert: bool,
     tokens: &[Piece],

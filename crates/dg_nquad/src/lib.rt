@@ -1,23 +1,20 @@
 //! Mutations: the language of their statements, which say what is set and what is deleted.
 //!
 //! [`read_mutation`] gives the statements of a text in its order, or the place of its fault. The grammar is
-//! `specs/Grammar.antt`, written as it is read by the rules of `dg_text`.
+//! `specs/Grammar.antt`, written as it is read by the rules of `dg_text`. [`grammar`] reads it from tokens, also the groups
+//! of an upsert block, in which variables may stand.
 #![tactic(auto)]
 
-mod block;
+pub mod block;
 mod fault;
-mod grammar;
+pub mod grammar;
 mod laws;
 mod mutation;
 mod reading;
 mod terms;
-mod tokens;
 mod words;
 
 pub use fault::NquadFault;
 pub use laws::tokens_say;
 pub use mutation::{Mutation, Node, Object, Statement};
 pub use reading::read_mutation;
-
-#[cfg(test)]
-mod tests;

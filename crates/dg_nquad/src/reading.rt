@@ -4,29 +4,15 @@ ghost use Rattle.std.specs.List.{AllByRecursion};
 ghost use Rattle.dg_text.specs.Tokens.{toks, AreCut};
 ghost use Rattle.dg_nquad.specs.Plain.{HasNoVariable};
 ghost use Rattle.dg_text.specs.Sizes.{AreSmall};
-ghost use Rattle.dg_text.specs.Places.{offset_of};
 ghost use Rattle.dg_nquad.specs.Whole.{statements_of, by_tokens, mutation, Reads};
 
 use crate::grammar::body_at;
 use crate::{Mutation, NquadFault};
 use dg_text::pieces::pieces;
-use dg_text::reading::{left, peek};
+use dg_text::places::offset_at;
+use dg_text::reading::left;
 use dg_text::{LexFault, Piece, ReadError, Token, lex};
 use std::alloc::{AllocError, Global};
-
-// The offset of the token from which on so many are left.
-#[tactic(auto, using(crate::proofs::Small::next_start))]
-fn offset_at(tokens: &[Piece], end: usize, place: usize) -> u32
-    requires small { AreSmall (toks tokens.now) }
-    requires end { end ≤ 1048576 }
-    ensures { result ≡ offset_of (toks tokens.now) end place }
-{
-    let at = left(tokens, 0).saturating_sub(place);
-    match peek(tokens, at) {
-        None => end as u32,
-        Some(token) => token.start as u32,
-    }
-}
 
 // The mutation that the tokens of a text with this end say.
 fn read_pieces(alloc: Global, tokens: &[Piece], end: usize) -> Result<Mutation, NquadFault>
@@ -53,7 +39,7 @@ fn read_pieces(alloc: Global, tokens: &[Piece], end: usize) -> Result<Mutation, 
 }
 
 // The mutation that a text with these tokens says.
-#[tactic(auto, using(crate::proofs::Small::are_small))]
+#[tactic(auto, using(dg_text::proofs::Small::are_small))]
 fn read_tokens(alloc: Global, text: &str, tokens: &[Token]) -> Result<Mutation, NquadFault>
     requires size { length text.now ≤ 1048576 }
     requires cut { AreCut text.now tokens.now }
