@@ -4,12 +4,11 @@ use Rattle.std.specs.declared.cmp.Ordering.{Ordering}
 use Rattle.std.specs.declared.cmp.Ordering.TheVariants.{Less, Equal, Greater}
 use Rattle.std.specs.Cmp.{IsTotalOrder}
 use Rattle.std.specs.Ordering.{nat_cmp, ordering_then, ordering_reverse, is_lt, is_eq}
-use Rattle.dg_values.specs.Order.{IsOrder, text_cmp, value_cmp, posting_cmp, tokenizer_rank, tokenizer_cmp}
-use Rattle.dg_values.specs.declared.kind.Tokenizer.{Tokenizer}
+use Rattle.dg_values.specs.Order.{IsOrder, text_cmp, posting_cmp}
 use Rattle.dg_values.specs.declared.kind.Tokenizer.TheVariants as tokenizers
 use Rattle.dg_values.specs.declared.value.Value.TheVariants as values
 use Rattle.dg_values.specs.declared.value.Posting.{Posting}
-use Rattle.dg_values.proofs.OrderLaws.{value_order, posting_order}
+use Rattle.dg_values.proofs.OrderLaws.{posting_order}
 use Rattle.dg_sets.proofs.MadeOrders.{nat_order, text_order, then_order, by_order, total_from}
 use Rattle.dg_tokens.specs.declared.tokens.IndexToken.{IndexToken}
 use Rattle.dg_keys.specs.declared.key.Key.{Key}
