@@ -19,6 +19,7 @@ use Rattle.dg_edges.proofs.OpLaws.{Differs, between_differs, between_covers}
 use Rattle.dg_schema.specs.declared.definition.PredDef.{PredDef}
 use Rattle.dg_schema.specs.Definitions.{definition_of, is_single, is_single_by}
 use Rattle.dg_graph.specs.declared.change.Triple.{Triple}
+use Rattle.dg_graph.specs.Lookups.{tokens_of_object}
 use Rattle.dg_graph.specs.declared.change.Change.{Change}
 use Rattle.dg_graph.specs.declared.change.Change.TheVariants as changes
 use Rattle.dg_graph.specs.Graphs.{triple_cmp, fits, fits_by, after_change, after_changes, IsLawful}
@@ -32,7 +33,7 @@ use Rattle.dg_keys.specs.declared.conflict.ConflictKey.TheVariants as conflicts
 use Rattle.dg_keys.specs.Keys.{key_cmp, pred_of}
 use Rattle.dg_zero.specs.Worlds.{change_of, changes_at, changes_of}
 use Rattle.dg_keys.specs.Conflicts.{conflict_cmp}
-use Rattle.dg_zero.specs.Listings.{listing, AreGainsAndLosses, triple_of, touched, keys_of_object, keys_of_token, tokens_of_object, keys_of_change, keys_of_changes, conflict_keys}
+use Rattle.dg_zero.specs.Listings.{listing, AreGainsAndLosses, triple_of, touched, keys_of_object, keys_of_token, keys_of_change, keys_of_changes, conflict_keys}
 use Rattle.dg_keys.specs.KeyOrder.{key_order, conflict_order}
 use Rattle.dg_edges.specs.Deltas.{parts_at, gains, data_key, data_keys, deltas, data_conflict, data_conflicts, preds_of, IsPlainDefinition, IsPlain, AreFitting}
 use Rattle.dg_edges.specs.Laws.{DeltasLead, KeysAre, OffersAreSound, ChangesDoAsParts, Done, IsKeyed, HasNone, after_done, OthersLeave, CommitsDoAsChanges}

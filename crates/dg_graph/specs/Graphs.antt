@@ -78,15 +78,3 @@ pub record IsLawful (schema : List PredDef) (graph : List Triple) : Type 0 where
   pub ascend : Ascends triple_cmp graph
   pub fit : AllByRecursion (λ t. fits schema t ≡ true) graph
   pub single : has_single_objects schema graph ≡ true
-
--- the subjects that have an object of the predicate at which the test holds, ascending
-abbrev pub subjects_where : (Posting → Bool) → List Triple → List ℕ → List ℕ
-subjects_where test graph p = fold (with_one nat_cmp) [] (map (λ t. t.s) (filter (λ t. is_of p t && test t.o) graph))
-
--- the subjects that point to an object, ascending
-abbrev pub subjects_of : List Triple → List ℕ → Posting → List ℕ
-subjects_of graph p o = subjects_where (λ object. is_eq (posting_cmp object o)) graph p
-
--- the objects that a predicate has, ascending
-abbrev pub all_objects : List Triple → List ℕ → List Posting
-all_objects graph p = fold (with_one posting_cmp) [] (map (λ t. t.o) (filter (is_of p) graph))

@@ -5,7 +5,8 @@ use Rattle.dg_values.specs.Ascending.{Ascends, has}
 use Rattle.dg_values.specs.Order.{posting_cmp}
 use Rattle.dg_values.specs.declared.value.Posting.{Posting}
 use Rattle.dg_schema.specs.declared.definition.PredDef.{PredDef}
-use Rattle.dg_graph.specs.Graphs.{triple_cmp, objects, subjects_of, after_changes, IsLawful}
+use Rattle.dg_graph.specs.Graphs.{triple_cmp, objects, after_changes, IsLawful}
+use Rattle.dg_graph.specs.Lookups.{subjects_of}
 use Rattle.dg_graph.specs.Changes.{has_triple, there_after_all, objects_after, AllFit}
 use Rattle.dg_graph.specs.declared.change.Triple.{Triple}
 use Rattle.dg_graph.specs.declared.change.Change.{Change}

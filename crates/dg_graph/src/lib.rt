@@ -2,6 +2,7 @@
 #![tactic(auto)]
 
 mod change;
+mod fitting;
 mod graph;
 mod laws;
 mod plain;
@@ -10,11 +11,12 @@ mod snapshot;
 mod subject;
 
 pub use change::{Change, Triple};
+pub use fitting::fits;
 pub use graph::Graph;
 pub use laws::{graphs, lists_of_graphs};
 pub use plain::Plain;
 pub use snapshot::Snapshot;
-pub use subject::{change_objects, is_of_subject, is_single};
+pub use subject::{change_objects, is_of_subject, is_single, put_sole};
 
 #[cfg(test)]
 mod tests;

@@ -40,8 +40,8 @@ pub(crate) fn copied_objects(alloc: Global, triples: &[Triple]) -> Mem<Vec<Posti
     Ok(objects)
 }
 
-// Puts an object in the place of all. After an error the objects are as before.
-fn put_sole(objects: &mut Vec<Posting>, object: Posting) -> Mem<()>
+/// Puts an object in the place of all. The error is want of memory, and leaves the objects as they were.
+pub fn put_sole(objects: &mut Vec<Posting>, object: Posting) -> Mem<()>
     ensures ok { OnOk result (objects.new.items ≡ object ∷ []) }
     ensures err { OnErr result (objects.new.items ≡ objects.old.items) }
 {

@@ -15,7 +15,7 @@ use Rattle.dg_values.specs.declared.value.Value.{Value}
 use Rattle.dg_values.specs.declared.value.Value.TheVariants as values
 use Rattle.dg_keys.specs.declared.conflict.ConflictKey.{ConflictKey}
 use Rattle.dg_keys.specs.declared.conflict.ConflictKey.TheVariants.{Data, Index, Count, RCount}
-use Rattle.dg_keys.specs.Keys.{index_token_cmp}
+use Rattle.dg_tokens.specs.Orders.{index_token_cmp}
 
 -- none before some
 abbrev pub option_cmp : {X : Type 0} → (X → X → Ordering) → Option X → Option X → Ordering

@@ -4,19 +4,20 @@ use Rattle.std.specs.declared.cmp.Ordering.{Ordering}
 use Rattle.std.specs.declared.cmp.Ordering.TheVariants.{Less, Equal, Greater}
 use Rattle.std.specs.Cmp.{IsTotalOrder}
 use Rattle.std.specs.Ordering.{nat_cmp, ordering_then, ordering_reverse, is_lt, is_eq}
-use Rattle.dg_values.specs.Order.{IsOrder, text_cmp, value_cmp, posting_cmp, tokenizer_rank, tokenizer_cmp}
-use Rattle.dg_values.specs.declared.kind.Tokenizer.{Tokenizer}
+use Rattle.dg_values.specs.Order.{IsOrder, text_cmp, posting_cmp}
 use Rattle.dg_values.specs.declared.kind.Tokenizer.TheVariants as tokenizers
 use Rattle.dg_values.specs.declared.value.Value.TheVariants as values
 use Rattle.dg_values.specs.declared.value.Posting.{Posting}
-use Rattle.dg_values.proofs.OrderLaws.{value_order, posting_order}
+use Rattle.dg_values.proofs.OrderLaws.{posting_order}
 use Rattle.dg_sets.proofs.MadeOrders.{nat_order, text_order, then_order, by_order, total_from}
 use Rattle.dg_tokens.specs.declared.tokens.IndexToken.{IndexToken}
 use Rattle.dg_keys.specs.declared.key.Key.{Key}
 use Rattle.dg_keys.specs.declared.key.Key.TheVariants as keys
 use Rattle.dg_keys.specs.declared.conflict.ConflictKey.{ConflictKey}
 use Rattle.dg_keys.specs.declared.conflict.ConflictKey.TheVariants.{Data, Index, Count, RCount}
-use Rattle.dg_keys.specs.Keys.{index_token_cmp, key_cmp, pred_of, kind_rank, field_cmp}
+use Rattle.dg_tokens.specs.Orders.{index_token_cmp}
+use Rattle.dg_tokens.proofs.TokenOrder.{index_token_order}
+use Rattle.dg_keys.specs.Keys.{key_cmp, pred_of, kind_rank, field_cmp}
 use Rattle.dg_keys.specs.Conflicts.{option_cmp, conflict_cmp, conflict_rank}
 
 -- ---- tools
@@ -79,42 +80,6 @@ option_itself cmp o (Some x) = o.itself x
 -- nothing comes first, and then what is there in its order
 pub option_order : {X : Type 0} (cmp : X → X → Ordering) → IsOrder cmp → IsOrder (option_cmp cmp)
 option_order cmp o = record { antisymm = option_antisymm cmp o; trans = option_trans cmp o; same = option_same cmp o; itself = option_itself cmp o }
-
--- ---- tokens
-
--- the tokenizer at a place among the tokenizers
-tokenizer_at : ℕ → Tokenizer
-tokenizer_at zero = tokenizers.Exact
-tokenizer_at (suc zero) = tokenizers.Hash
-tokenizer_at (suc (suc zero)) = tokenizers.Term
-tokenizer_at (suc (suc (suc zero))) = tokenizers.Trigram
-tokenizer_at (suc (suc (suc (suc zero)))) = tokenizers.Int
-tokenizer_at (suc (suc (suc (suc (suc zero))))) = tokenizers.Bool
-tokenizer_at (suc (suc (suc (suc (suc (suc zero)))))) = tokenizers.Year
-tokenizer_at (suc (suc (suc (suc (suc (suc (suc zero))))))) = tokenizers.Month
-tokenizer_at (suc (suc (suc (suc (suc (suc (suc (suc zero)))))))) = tokenizers.Day
-tokenizer_at (suc (suc (suc (suc (suc (suc (suc (suc (suc n))))))))) = tokenizers.Hour
-
-at_rank : (t : Tokenizer) → tokenizer_at (tokenizer_rank t) ≡ t
-unfolding tokenizer_at
-at_rank tokenizers.Exact = refl
-at_rank tokenizers.Hash = refl
-at_rank tokenizers.Term = refl
-at_rank tokenizers.Trigram = refl
-at_rank tokenizers.Int = refl
-at_rank tokenizers.Bool = refl
-at_rank tokenizers.Year = refl
-at_rank tokenizers.Month = refl
-at_rank tokenizers.Day = refl
-at_rank tokenizers.Hour = refl
-
--- the order of tokenizers
-pub tokenizer_order : IsOrder tokenizer_cmp
-tokenizer_order = by_order tokenizer_rank nat_cmp nat_order (λ a b e. sym (at_rank a) ∙ (ap tokenizer_at e ∙ at_rank b))
-
--- the order of tokens
-pub index_token_order : IsOrder index_token_cmp
-index_token_order = then_order (λ (t : IndexToken). t.tokenizer) (λ (t : IndexToken). t.value) tokenizer_cmp value_cmp tokenizer_order value_order (λ x y p q i. record { tokenizer = p i; value = q i })
 
 -- stands for the token of a key that has none
 abbrev no_token : IndexToken

@@ -3,18 +3,14 @@ use Rattle.std.specs.Prelude.{ℕ, List, filter, flat_map}
 use Rattle.std.specs.List.{AllByRecursion}
 use Rattle.std.specs.declared.cmp.Ordering.{Ordering}
 use Rattle.std.specs.Ordering.{nat_cmp, ordering_then, is_eq}
-use Rattle.dg_values.specs.Order.{text_cmp, value_cmp, tokenizer_cmp}
+use Rattle.dg_values.specs.Order.{text_cmp}
 use Rattle.dg_values.specs.Ascending.{Ascends}
 use Rattle.dg_delta.specs.declared.op.Op.{Op}
 use Rattle.dg_delta.specs.Ops.{AreOps}
-use Rattle.dg_tokens.specs.declared.tokens.IndexToken.{IndexToken}
+use Rattle.dg_tokens.specs.Orders.{index_token_cmp}
 use Rattle.dg_keys.specs.declared.key.Key.{Key}
 use Rattle.dg_keys.specs.declared.key.Key.TheVariants.{Data, Index, Reverse, Count, RCount}
 use Rattle.dg_keys.specs.declared.record.Part.{Part}
-
--- tokens by tokenizer, and then by value
-abbrev pub index_token_cmp : IndexToken → IndexToken → Ordering
-index_token_cmp a b = ordering_then (tokenizer_cmp a.tokenizer b.tokenizer) (value_cmp a.value b.value)
 
 -- the predicate of a key
 abbrev pub pred_of : Key → List ℕ

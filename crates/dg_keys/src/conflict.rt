@@ -1,8 +1,7 @@
 // Keys by which commits conflict.
 ghost use Rattle.std.specs.Prelude.{◌≡◌, IfOk};
 
-use crate::token::copy_token;
-use dg_tokens::IndexToken;
+use dg_tokens::{IndexToken, copy_token};
 use dg_values::{Mem, OutOfMemory, Posting, Str};
 use std::alloc::Global;
 

@@ -2,9 +2,8 @@
 ghost use Rattle.std.specs.Prelude.{◌≡◌, IfOk};
 ghost use Rattle.dg_keys.specs.Keys.{pred_of, kind_rank, field_cmp};
 
-use crate::token::{cmp_token, copy_token};
 use dg_sets::InOrder;
-use dg_tokens::IndexToken;
+use dg_tokens::{IndexToken, cmp_token, copy_token};
 use dg_values::{Mem, OutOfMemory, Str};
 use std::alloc::Global;
 use std::cmp::Ordering;

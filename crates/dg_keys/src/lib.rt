@@ -8,7 +8,6 @@ mod order;
 mod record;
 mod tablet;
 mod text;
-mod token;
 
 pub use conflict::{ConflictKey, copy_keys};
 pub use key::Key;

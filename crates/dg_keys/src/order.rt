@@ -5,8 +5,8 @@ ghost use Rattle.dg_keys.specs.Conflicts.{conflict_cmp, conflict_rank, option_cm
 ghost use Rattle.dg_values.specs.Order.{posting_cmp};
 
 use crate::ConflictKey;
-use crate::token::cmp_token;
 use dg_sets::InOrder;
+use dg_tokens::cmp_token;
 use dg_values::Posting;
 use std::cmp::Ordering;
 

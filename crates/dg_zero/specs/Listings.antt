@@ -1,8 +1,6 @@
 -- What a key lists in a graph under a schema, and the keys by which changes conflict.
 use Rattle.std.specs.Prelude.{◌≡◌, ℕ, Bool, true, ◌&&◌, ◌==◌, nat_le, List, [], ◌∷◌, ◌++◌, Option, Some, None, if◌then◌else◌, map, filter, flat_map, length}
-use Rattle.dg_values.specs.Ascending.{ascending, has}
-use Rattle.dg_values.specs.Order.{tokenizer_cmp}
-use Rattle.dg_values.specs.declared.kind.Tokenizer.{Tokenizer}
+use Rattle.dg_values.specs.Ascending.{ascending}
 use Rattle.dg_values.specs.declared.value.Posting.{Posting}
 use Rattle.dg_values.specs.declared.value.Posting.TheVariants.{Uid, Val}
 use Rattle.dg_delta.specs.Ops.{changes_between}
@@ -11,37 +9,16 @@ use Rattle.dg_schema.specs.Definitions.{definition_of}
 use Rattle.dg_graph.specs.declared.change.Triple.{Triple}
 use Rattle.dg_graph.specs.declared.change.Change.{Change}
 use Rattle.dg_graph.specs.declared.change.Change.TheVariants.{Set, Del}
-use Rattle.dg_graph.specs.Graphs.{objects, subjects_where, subjects_of, all_objects, after_change}
+use Rattle.dg_graph.specs.Graphs.{objects, after_change}
+use Rattle.dg_graph.specs.Lookups.{tokens_of_object, has_token, has_tokenizer, with_objects, with_subjects, subjects_where, subjects_of}
 use Rattle.dg_tokens.specs.declared.tokens.IndexToken.{IndexToken}
 use Rattle.dg_keys.specs.declared.key.Key.{Key}
 use Rattle.dg_keys.specs.declared.key.Key.TheVariants.{Data, Index, Reverse, Count, RCount}
 use Rattle.dg_keys.specs.declared.conflict.ConflictKey.{ConflictKey}
 use Rattle.dg_keys.specs.declared.conflict.ConflictKey.TheVariants as conflicts
 use Rattle.dg_keys.specs.declared.record.Part.{Part}
-use Rattle.dg_keys.specs.Keys.{index_token_cmp, pred_of, ops_at, AreParts}
+use Rattle.dg_keys.specs.Keys.{pred_of, ops_at, AreParts}
 use Rattle.dg_keys.specs.Conflicts.{conflict_cmp}
-use Rattle.dg_tokens.specs.Tokens.{tokens_of}
-
--- the tokens of an object: a node has none
-abbrev pub tokens_of_object : Tokenizer → Posting → List IndexToken
-tokens_of_object tokenizer (Uid n) = []
-tokens_of_object tokenizer (Val value) = tokens_of tokenizer value
-
--- the token is one of the object
-abbrev pub has_token : IndexToken → Posting → Bool
-has_token t object = has index_token_cmp (tokens_of_object t.tokenizer object) t
-
--- the predicate has an index by this tokenizer
-abbrev pub has_tokenizer : PredDef → Tokenizer → Bool
-has_tokenizer def tokenizer = has tokenizer_cmp def.tokens tokenizer
-
--- the nodes with exactly n objects, ascending
-abbrev pub with_objects : List Triple → List ℕ → ℕ → List ℕ
-with_objects graph p n = filter (λ s. length (objects graph p s) == n) (subjects_where (λ o. true) graph p)
-
--- the nodes that exactly n subjects point to, ascending
-abbrev pub with_subjects : List Triple → List ℕ → ℕ → List Posting
-with_subjects graph p n = filter (λ o. length (subjects_of graph p o) == n) (all_objects graph p)
 
 -- nodes as postings
 abbrev pub nodes : List ℕ → List Posting

@@ -10,7 +10,7 @@ ghost use Rattle.dg_zero.specs.Seen.{is_upto, where_upto, events_upto, world_of,
 use crate::past::Past;
 use crate::{Event, ZeroState};
 use dg_delta::Op;
-use dg_graph::Snapshot;
+use dg_graph::{Snapshot, put_sole};
 use dg_keys::{Key, Part};
 use dg_schema::Schema;
 use dg_sets::{put, take_out};
@@ -115,19 +115,6 @@ fn is_single_after(newer: &Schema, p: &str, single: bool) -> bool
         Some(definition) => !definition.list,
         None => single,
     }
-}
-
-// Puts an object in the place of all. After an error the objects are as before.
-fn put_sole(objects: &mut Vec<Posting>, object: Posting) -> Mem<()>
-    ensures ok { OnOk result (objects.new.items ≡ object ∷ []) }
-    ensures err { OnErr result (objects.new.items ≡ objects.old.items) }
-{
-    if objects.is_empty() {
-        return Ok(objects.push(object)?);
-    }
-    objects[0] = object;
-    objects.truncate(1);
-    Ok(())
 }
 
 impl Subject {
