@@ -4,6 +4,7 @@
 mod edits;
 mod joins;
 mod merges;
+mod orders;
 mod pages;
 mod places;
 mod tree;

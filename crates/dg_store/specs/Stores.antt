@@ -1,14 +1,18 @@
 -- A store as a map from keys to posting lists.
-use Rattle.std.specs.Prelude.{ℕ, Bool, List, [], fold, filter, Option, unwrap_or}
+use Rattle.std.specs.Prelude.{ℕ, Bool, List, [], fold, filter, map, Option, unwrap_or}
+use Rattle.std.specs.Arc.{arc_value}
+use Rattle.std.specs.declared.sync.Arc.{Arc}
+use Rattle.std.specs.declared.alloc.Global.{Global}
 use Rattle.std.specs.Map.{lookup}
 use Rattle.std.specs.Ordering.{eq_by_cmp}
 use Rattle.dg_values.specs.Order.{text_cmp}
 use Rattle.dg_values.specs.Ascending.{has}
+use Rattle.dg_values.specs.declared.value.Posting.{Posting}
 use Rattle.dg_keys.specs.Keys.{key_cmp, pred_of}
 use Rattle.dg_keys.specs.declared.key.Key.{Key}
 use Rattle.dg_keys.specs.declared.record.Part.{Part}
 use Rattle.dg_pages.specs.Entries.{with_entry}
-use Rattle.dg_list.specs.Lists.{Layered, with_layer}
+use Rattle.dg_list.specs.Lists.{Layered, with_layer, with_base}
 
 -- the lists by their keys, in the order of the keys
 abbrev pub Lists : Type 0
@@ -45,3 +49,19 @@ after_part ts lists part = with_entry key_cmp part.key (with_part ts lists part)
 -- the lists after parts in turn
 abbrev pub after_parts : ℕ → Lists → List Part → Lists
 after_parts ts lists parts = fold (after_part ts) lists parts
+
+-- the base that a pair of pointers stands for, with its key
+abbrev pub base_of : Arc Key Global × Arc (List Posting) Global → Key × List Posting
+base_of b = (arc_value b.0, arc_value b.1)
+
+-- the bases that pairs stand for
+abbrev pub bases_of : List (Arc Key Global × Arc (List Posting) Global) → List (Key × List Posting)
+bases_of bs = map base_of bs
+
+-- the lists after one base
+abbrev pub after_base : ℕ → Lists → Key × List Posting → Lists
+after_base upto lists b = with_entry key_cmp b.0 (with_base (list_at b.0 lists) b.1 upto) lists
+
+-- the lists after bases in turn
+abbrev pub after_bases : ℕ → Lists → List (Key × List Posting) → Lists
+after_bases upto lists bases = fold (after_base upto) lists bases

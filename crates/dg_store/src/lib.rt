@@ -4,4 +4,5 @@
 mod parts;
 mod store;
 
+pub use parts::parts_of;
 pub use store::Store;

@@ -1,14 +1,15 @@
 // Posting lists by their keys.
-ghost use Rattle.std.specs.Prelude.{[], ◌≡◌, ◌<◌, ◌≤◌, IfOk, Some};
+ghost use Rattle.std.specs.Prelude.{[], ◌≡◌, ◌<◌, ◌≤◌, IfOk, IfSome, Some};
 ghost use Rattle.std.specs.Arc.{arc_value};
 ghost use Rattle.std.specs.Option.{option_map, option_copied};
 ghost use Rattle.std.specs.List.{AllByRecursion};
+ghost use Rattle.std.specs.Ordering.{on};
 ghost use Rattle.dg_values.specs.Ascending.{Ascends};
 ghost use Rattle.dg_delta.specs.Ops.{op_cmp};
 ghost use Rattle.dg_keys.specs.Keys.{key_cmp, part_cmp};
 ghost use Rattle.dg_list.specs.Lists.{newest_ts, reading, with_base};
-ghost use Rattle.dg_pages.specs.Entries.{with_entry, entry_from, change_of};
-ghost use Rattle.dg_store.specs.Stores.{list_under, list_at, held_parts, with_part, after_parts};
+ghost use Rattle.dg_pages.specs.Entries.{with_entry, entry_from, entry_above, change_of};
+ghost use Rattle.dg_store.specs.Stores.{list_under, list_at, held_parts, with_part, after_parts, bases_of, after_bases};
 
 use crate::parts::{is_among, layer_of};
 use dg_base::Base;
@@ -16,6 +17,7 @@ use dg_delta::Layer;
 use dg_keys::{Key, Part, Record};
 use dg_list::PList;
 use dg_pages::Pages;
+use dg_sets::InOrder;
 use dg_values::{Mem, OutOfMemory, Str};
 use std::alloc::Global;
 use std::marker::Model;
@@ -69,6 +71,13 @@ impl Store {
         self.lists.next_from(from)
     }
 
+    /// The least key above this one, with its list. None exactly where there is none. It takes no memory.
+    pub fn scan_above(&self, after: &Key) -> Option<(&Arc<Key>, &Arc<PList>)>
+        ensures { option_map (λ p. (arc_value p.0.now, arc_value p.1.now)) result ≡ entry_above key_cmp after.now self.now }
+    {
+        self.lists.next_above(after)
+    }
+
     /// The store with one more layer for each part of a record whose predicate is among those held. The error is want of
     /// memory.
     pub fn with_record(&self, alloc: Global, rec: &Record, held: &[Str]) -> Mem<Store>
@@ -88,6 +97,22 @@ impl Store {
         })
     }
 
+    /// The store with one more layer for each of these parts. The error is want of memory.
+    pub fn with_parts(&self, alloc: Global, ts: u64, parts: &[Part]) -> Mem<Store>
+        requires parts { Ascends part_cmp parts.now }
+        requires each { AllByRecursion (λ part. Ascends op_cmp part.ops) parts.now }
+        requires newer { AllByRecursion (λ part. newest_ts (list_at part.key self.now) < ts) parts.now }
+        ensures { IfOk result (λ store. store ≡ after_parts ts self.now parts.now) }
+    {
+        let mut changes = Vec::new(alloc);
+        for part in parts {
+            changes.push(self.change(alloc, ts, part)?)?;
+        }
+        Ok(Store {
+            lists: self.lists.with_changes(alloc, changes)?,
+        })
+    }
+
     /// The store with this base in the place of the base of a key's list and of its layers at or below a timestamp, where
     /// the base is that list at that timestamp. The error is want of memory.
     pub fn with_base(&self, alloc: Global, key: &Key, base: Arc<Base>, upto: u64) -> Mem<Store>
@@ -95,13 +120,31 @@ impl Store {
         requires base { arc_value base ≡ reading (list_at key.now self.now) upto }
         ensures { IfOk result (λ store. store ≡ with_entry key_cmp key.now (with_base (list_at key.now self.now) (arc_value base) upto) self.now) }
     {
-        let list = match self.get(key) {
-            Some(list) => list.with_base(alloc, base, upto)?,
-            None => PList::empty(alloc)?.with_base(alloc, base, upto)?,
-        };
-        let key = Arc::new(alloc, key.copy(alloc)?)?;
+        let list = Arc::new(alloc, self.rolled(alloc, key, base, upto)?)?;
         let mut changes = Vec::new(alloc);
-        changes.push((key, Some(Arc::new(alloc, list)?)))?;
+        changes.push((self.shared_key(alloc, key)?, Some(list)))?;
+        Ok(Store {
+            lists: self.lists.with_changes(alloc, changes)?,
+        })
+    }
+
+    /// The store with each of these bases in the place of the base of its key's list and of the layers there at or below a
+    /// timestamp, where the base is that list at that timestamp, and the keys ascend. The error is want of memory.
+    pub fn with_bases(
+        &self,
+        alloc: Global,
+        bases: &[(Arc<Key>, Arc<Base>)],
+        upto: u64,
+    ) -> Mem<Store>
+        requires keys { Ascends (on (λ b. b.0) key_cmp) (bases_of bases.now) }
+        requires from { AllByRecursion (λ b. (list_at b.0 self.now).base_ts ≤ upto) (bases_of bases.now) }
+        requires base { AllByRecursion (λ b. b.1 ≡ reading (list_at b.0 self.now) upto) (bases_of bases.now) }
+        ensures { IfOk result (λ store. store ≡ after_bases upto self.now (bases_of bases.now)) }
+    {
+        let mut changes = Vec::with_capacity(alloc, bases.len())?;
+        for pair in bases {
+            changes.push(self.base_change(alloc, pair, upto)?)?;
+        }
         Ok(Store {
             lists: self.lists.with_changes(alloc, changes)?,
         })
@@ -118,7 +161,67 @@ impl Store {
             Some(list) => list.with_layer(alloc, layer)?,
             None => PList::empty(alloc)?.with_layer(alloc, layer)?,
         };
-        let key = Arc::new(alloc, part.key.copy(alloc)?)?;
-        Ok((key, Some(Arc::new(alloc, list)?)))
+        let list = Arc::new(alloc, list)?;
+        Ok((self.shared_key(alloc, &part.key)?, Some(list)))
+    }
+
+    // The list of a key over another base.
+    fn base_change(
+        &self,
+        alloc: Global,
+        pair: &(Arc<Key>, Arc<Base>),
+        upto: u64,
+    ) -> Mem<(Arc<Key>, Option<Arc<PList>>)>
+        requires from { (list_at (arc_value pair.now.0) self.now).base_ts ≤ upto }
+        requires base { arc_value pair.now.1 ≡ reading (list_at (arc_value pair.now.0) self.now) upto }
+        ensures { IfOk result (λ change. change_of change ≡ (arc_value pair.now.0, Some (with_base (list_at (arc_value pair.now.0) self.now) (arc_value pair.now.1) upto))) }
+    {
+        let list = self.rolled(alloc, &pair.0, Arc::try_clone(&pair.1)?, upto)?;
+        let list = Arc::new(alloc, list)?;
+        Ok((self.shared_with(&pair.0)?, Some(list)))
+    }
+
+    // The list of a key with this base in the place of its base and of its layers at or below a timestamp.
+    fn rolled(&self, alloc: Global, key: &Key, base: Arc<Base>, upto: u64) -> Mem<PList>
+        requires from { (list_at key.now self.now).base_ts ≤ upto }
+        requires base { arc_value base ≡ reading (list_at key.now self.now) upto }
+        ensures { IfOk result (λ list. list ≡ with_base (list_at key.now self.now) (arc_value base) upto) }
+    {
+        match self.get(key) {
+            Some(list) => list.with_base(alloc, base, upto),
+            None => PList::empty(alloc)?.with_base(alloc, base, upto),
+        }
+    }
+
+    // An equal key, which is copied only where the store hasn't got it.
+    fn shared_key(&self, alloc: Global, key: &Key) -> Mem<Arc<Key>>
+        ensures { IfOk result (λ shared. arc_value shared ≡ key.now) }
+    {
+        match self.there(key) {
+            Some(there) => Ok(Arc::try_clone(there)?),
+            None => Ok(Arc::new(alloc, key.copy(alloc)?)?),
+        }
+    }
+
+    // The key that the store has, or else this one.
+    fn shared_with(&self, key: &Arc<Key>) -> Mem<Arc<Key>>
+        ensures { IfOk result (λ shared. arc_value shared ≡ arc_value key.now) }
+    {
+        match self.there(key) {
+            Some(there) => Ok(Arc::try_clone(there)?),
+            None => Ok(Arc::try_clone(key)?),
+        }
+    }
+
+    // The key as the store has it.
+    fn there(&self, key: &Key) -> Option<&Arc<Key>>
+        ensures { IfSome result (λ there. arc_value there.now ≡ key.now) }
+    {
+        let (there, _) = self.lists.next_from(key)?;
+        if there.compare(key).is_eq() {
+            Some(there)
+        } else {
+            None
+        }
     }
 }

@@ -5,7 +5,7 @@ use Rattle.dg_keys.specs.declared.record.Part.{Part}
 use Rattle.dg_list.specs.Lists.{newest_ts}
 use Rattle.dg_pages.specs.Entries.{changed_all}
 use Rattle.dg_store.specs.Stores.{list_at, is_held, held_parts}
-use Rattle.dg_store.proofs.StoreLemmas.{part_change, parts_in_turn, passed_at}
+use Rattle.dg_store.proofs.StoreLemmas.{part_change, parts_in_turn, held_ascend, passed_at}
 use Rattle.dg_store.proofs.store.Store.with_record.Goals as goal
 
 pub change-requires-clause-newer : goal.change-requires-clause-newer
@@ -26,4 +26,4 @@ returns c =
     let changes = c.loop-part.invariant ∙ ap (λ ps. map (part_change ts start) (held_parts held ps)) (take_all c.loop-part.part-index parts done) in
     c.in_ok-with_changes.ensures
     ∙ (λ i. changed_all key_cmp (c.self.view_is i) (changes i))
-    ∙ parts_in_turn ts start held parts c.requires.parts
+    ∙ parts_in_turn ts start (held_parts held parts) (held_ascend held parts c.requires.parts)
