@@ -168,7 +168,7 @@ impl PList {
                     older,
                     alone,
                 } => {
-                    gather(alloc, &mut ops, layer, ts)?;
+                    gather(&mut ops, layer, ts)?;
                     if *alone && layer.ts() <= ts {
                         return after_gathered(alloc, Vec::new(alloc), ops);
                     }
