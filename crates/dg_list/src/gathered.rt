@@ -1,12 +1,12 @@
 // Operations gathered from layers, those of the newest layer first.
-ghost use Rattle.std.specs.Prelude.{◌≡◌, ◌++◌, IfOk, OnOk, map};
+ghost use Rattle.std.specs.Prelude.{◌≡◌, ◌++◌, IfOk, OnOk, map, false};
 ghost use Rattle.dg_values.specs.Ascending.{Ascends, has};
 ghost use Rattle.dg_values.specs.Order.{posting_cmp};
 ghost use Rattle.dg_delta.specs.Ops.{op_cmp};
 ghost use Rattle.dg_list.specs.Lists.{ops_upto};
 ghost use Rattle.dg_list.specs.Gathered.{SayAlike, there_by};
 
-use dg_delta::{Layer, Op, apply_owned};
+use dg_delta::{Layer, Op, apply_owned, put_in};
 use dg_values::{Mem, OutOfMemory, Posting, cmp_posting};
 use std::alloc::Global;
 
@@ -56,4 +56,21 @@ pub(crate) fn after_gathered(
     }
     let newest = newest_ops(ops)?;
     apply_owned(alloc, postings, newest.as_slice())
+}
+
+// The list where a layer stands alone below operations that were gathered. Without these it is what the layer puts in.
+pub(crate) fn after_alone<'a>(
+    alloc: Global,
+    mut ops: Vec<&'a Op>,
+    layer: &'a Layer,
+) -> Mem<Vec<Posting>>
+    ensures after { IfOk result (λ list. (posting : Posting) → has posting_cmp list.items posting ≡ there_by (map (λ op. op.now) ops.entry.items ++ layer.now.ops) posting false) }
+    ensures ascend { IfOk result (λ list. Ascends posting_cmp list.items) }
+    ensures layer { Ascends op_cmp layer.now.ops }
+{
+    if ops.is_empty() {
+        return put_in(alloc, layer.ops());
+    }
+    push_each(&mut ops, layer.ops())?;
+    after_gathered(alloc, Vec::new(alloc), ops)
 }

@@ -10,7 +10,7 @@ ghost use Rattle.dg_list.specs.Links.{Replace};
 
 use crate::covering::{stand_on_base, stand_on_puts};
 use crate::deciding::decide_at;
-use crate::gathered::{after_gathered, gather};
+use crate::gathered::{after_alone, after_gathered, gather};
 use dg_base::Base;
 use dg_delta::{Layer, Op};
 use dg_values::{Mem, OutOfMemory, Posting, Steps};
@@ -168,10 +168,10 @@ impl PList {
                     older,
                     alone,
                 } => {
-                    gather(&mut ops, layer, ts)?;
                     if *alone && layer.ts() <= ts {
-                        return after_gathered(alloc, Vec::new(alloc), ops);
+                        return after_alone(alloc, ops, layer);
                     }
+                    gather(&mut ops, layer, ts)?;
                     list = older;
                 }
             }
