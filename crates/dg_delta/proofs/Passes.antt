@@ -1,6 +1,6 @@
 -- One step of a pass over operations and a list, both ascending, and of a pass over two runs of operations.
-use Rattle.std.proofs.Common.{◌≡◌, ℕ, ◌+◌, ◌<◌, ◌≤◌, cond, List, [], ◌∷◌, ◌++◌, length, get_or, drop, refl, ap, subst, sym, ◌∙◌, append_assoc}
-use Rattle.std.proofs.lemmas.List.{drop_all, append-nil}
+use Rattle.std.proofs.Common.{◌≡◌, ℕ, ◌+◌, ◌<◌, ◌≤◌, cond, List, [], ◌∷◌, ◌++◌, length, get_or, drop, map, refl, ap, subst, sym, ◌∙◌, append_assoc}
+use Rattle.std.proofs.lemmas.List.{drop_all, append-nil, length-map, get_or-map, drop-map}
 use Rattle.std.specs.Prelude.{not}
 use Rattle.std.specs.List.{AllByRecursion}
 use Rattle.std.specs.declared.cmp.Ordering.TheVariants.{Less, Equal, Greater}
@@ -97,3 +97,47 @@ pub pass_end_ops : (postings : List Posting) (ops : List Op) (list all : List Po
 pass_end_ops postings ops list all i k le so_far =
     let none : drop k ops ≡ [] = drop_all k ops le in
     (λ j. (list ++ drop i postings) ++ put_by_all (none j)) ∙ append-nil (list ++ drop i postings) ∙ sym (λ j. list ++ after_ops (drop i postings) (none j)) ∙ so_far
+
+-- ---- one more posting, which is handed over, and operations behind references
+
+module _ {R : Type 0} (f : R → Op) (refs : List R) (s : Ascends op_cmp (map f refs)) (k : ℕ) (r : R) (hk : k < length refs) (er : r ≡ get_or refs k r) (list : List Posting) (x : Posting) (xs : List Posting) (a : Ascends posting_cmp (x ∷ xs)) where
+  at_op : drop k (map f refs) ≡ f r ∷ drop (k + 1) (map f refs)
+  at_op = left_from (map f refs) k (f r) (subst (λ n. k < n) (sym (length-map refs f)) hk) (ap f er ∙ sym (get_or-map f refs k r (f r) hk))
+
+  from_op : Ascends op_cmp (f r ∷ drop (k + 1) (map f refs))
+  from_op = subst (Ascends op_cmp) at_op (ascends_left op_cmp k (map f refs) s)
+
+  pub next_less : posting_cmp (posting_of (f r)) x ≡ Less → (list ++ put_by (f r)) ++ after_ops (x ∷ xs) (drop (k + 1) (map f refs)) ≡ list ++ after_ops (x ∷ xs) (drop k (map f refs))
+  next_less l =
+      append_assoc list (put_by (f r)) (after_ops (x ∷ xs) (drop (k + 1) (map f refs)))
+      ∙ ap (λ ys. list ++ ys) (sym (ap (after_ops (x ∷ xs)) at_op ∙ after_less (f r) (drop (k + 1) (map f refs)) x xs from_op a l))
+
+  pub next_equal : posting_cmp (posting_of (f r)) x ≡ Equal → ((list ++ put_by (f r)) ++ []) ++ after_ops xs (drop (k + 1) (map f refs)) ≡ list ++ after_ops (x ∷ xs) (drop k (map f refs))
+  next_equal e =
+      ap (λ ys. ys ++ after_ops xs (drop (k + 1) (map f refs))) (append-nil (list ++ put_by (f r)))
+      ∙ append_assoc list (put_by (f r)) (after_ops xs (drop (k + 1) (map f refs)))
+      ∙ ap (λ ys. list ++ ys) (sym (ap (after_ops (x ∷ xs)) at_op ∙ after_equal (f r) (drop (k + 1) (map f refs)) x xs from_op a e))
+
+  pub next_greater : posting_cmp (posting_of (f r)) x ≡ Greater → (list ++ x ∷ []) ++ after_ops xs (drop k (map f refs)) ≡ list ++ after_ops (x ∷ xs) (drop k (map f refs))
+  next_greater g =
+      append_assoc list (x ∷ []) (after_ops xs (drop k (map f refs)))
+      ∙ ap (λ ys. list ++ x ∷ ys) (ap (after_ops xs) at_op)
+      ∙ ap (λ ys. list ++ ys) (sym (ap (after_ops (x ∷ xs)) at_op ∙ after_greater (f r) (drop (k + 1) (map f refs)) x xs from_op g))
+
+-- with no operation left it stays
+pub next_kept : {R : Type 0} (f : R → Op) (refs : List R) (k : ℕ) (list : List Posting) (x : Posting) (xs : List Posting) → length refs ≤ k → (list ++ x ∷ []) ++ after_ops xs (drop k (map f refs)) ≡ list ++ after_ops (x ∷ xs) (drop k (map f refs))
+next_kept f refs k list x xs le =
+    let none : drop k (map f refs) ≡ [] = drop_all k (map f refs) (subst (λ n. n ≤ k) (sym (length-map refs f)) le) in
+    ap (λ os. (list ++ x ∷ []) ++ after_ops xs os) none ∙ append_assoc list (x ∷ []) xs ∙ sym (ap (λ os. list ++ after_ops (x ∷ xs) os) none)
+
+-- what is behind others ascends
+pub ascends_behind : (before after : List Posting) → Ascends posting_cmp (before ++ after) → Ascends posting_cmp after
+ascends_behind [] after a = a
+ascends_behind (x ∷ xs) after a = ascends_behind xs after a.1
+
+-- at the end what is left of the operations is put in
+pub all_passed : {R : Type 0} (f : R → Op) (refs : List R) (list all : List Posting) (k : ℕ) → Ascends op_cmp (map f refs) → list ++ after_ops [] (drop k (map f refs)) ≡ all → list ++ put_by_all (map f (drop k refs)) ≡ all
+all_passed f refs list all k s so_far =
+    ap (λ os. list ++ put_by_all os) (sym (drop-map f k refs))
+    ∙ ap (λ ys. list ++ ys) (sym (after_none (drop k (map f refs)) (ascends_left op_cmp k (map f refs) s)))
+    ∙ so_far

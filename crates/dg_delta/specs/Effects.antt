@@ -1,5 +1,5 @@
 -- What operations say of one posting, and operations that stand for others.
-use Rattle.std.specs.Prelude.{◌≡◌, Bool, true, false, List, [], ◌∷◌, Option, unwrap_or}
+use Rattle.std.specs.Prelude.{◌≡◌, Bool, true, false, List, [], ◌∷◌, ◌++◌, Option, unwrap_or}
 use Rattle.std.specs.List.{flat_map}
 use Rattle.dg_values.specs.Order.{posting_cmp}
 use Rattle.dg_values.specs.Ascending.{Ascends, has}
@@ -31,3 +31,8 @@ AppliesBoth older newer both =
 abbrev pub Says : List Op → Posting → Option Bool → Type 0
 Says ops posting answer =
     (postings : List Posting) → Ascends posting_cmp postings → has posting_cmp (after_ops postings ops) posting ≡ unwrap_or answer (has posting_cmp postings posting)
+
+-- what was added and what operations make of the postings left, is what they made of these and the next posting before
+abbrev pub GoesOn : Posting → List Posting → List Op → List Posting → List Op → Type 0
+GoesOn next before to_do after left =
+    (rest : List Posting) → Ascends posting_cmp (next ∷ rest) → after ++ after_ops rest left ≡ before ++ after_ops (next ∷ rest) to_do

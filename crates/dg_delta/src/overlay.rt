@@ -1,5 +1,5 @@
 // What operations make of a list.
-ghost use Rattle.std.specs.Prelude.{◌≡◌, ◌++◌, IfOk, OnOk};
+ghost use Rattle.std.specs.Prelude.{[], ◌≡◌, ◌++◌, IfOk, OnOk};
 ghost use Rattle.dg_values.specs.Ascending.{Ascends};
 ghost use Rattle.dg_values.specs.Order.{posting_cmp};
 ghost use Rattle.dg_delta.specs.Ops.{op_cmp, after_ops};
@@ -41,6 +41,17 @@ pub fn apply(alloc: Global, postings: &[Posting], ops: &[Op]) -> Mem<Vec<Posting
     }
     push_copies(alloc, &mut list, &postings[at..])?;
     put_all(alloc, &mut list, &ops[done..])?;
+    Ok(list)
+}
+
+/// The postings that ascending operations put in, which are what they make of the empty list. The error is want of memory.
+pub fn put_in(alloc: Global, ops: &[Op]) -> Mem<Vec<Posting>>
+    requires { Ascends op_cmp ops.now }
+    ensures after { IfOk result (λ list. list.items ≡ after_ops [] ops.now) }
+    ensures ascend { IfOk result (λ list. Ascends posting_cmp list.items) }
+{
+    let mut list = Vec::new(alloc);
+    put_all(alloc, &mut list, ops)?;
     Ok(list)
 }
 

@@ -126,12 +126,11 @@ module _ (v w : Layered) (l : Changes) (is : with_layer w l ≡ v) (sound : IsSo
   pub alone_read : l.ts ≤ ts → Replace l.ops w → reading v ts ≡ after_ops [] l.ops
   alone_read h r = let above = layer_above in over_read h ∙ r ts (omega arith)
 
-  pub gathered_alone : (ops : List Op) → Ascends op_cmp (ops_upto ts l) → l.ts ≤ ts → Replace l.ops w → (q : Posting) → there_by ops q (has posting_cmp (reading v ts) q) ≡ there_by (ops ++ ops_upto ts l) q false
+  pub gathered_alone : (ops : List Op) → Ascends op_cmp l.ops → l.ts ≤ ts → Replace l.ops w → (q : Posting) → there_by ops q (has posting_cmp (reading v ts) q) ≡ there_by (ops ++ l.ops) q false
   gathered_alone ops a h r q =
-      let whole : l.ops ≡ ops_upto ts l = ap (λ b. cond b l.ops []) (sym (le_true l.ts ts h)) in
-      ap (λ xs. there_by ops q (has posting_cmp xs q)) (alone_read h r ∙ ap (after_ops []) whole)
-      ∙ ap (there_by ops q) (has_after (ops_upto ts l) [] q ∙ said_in_turn (ops_upto ts l) q false a)
-      ∙ sym (said_joined ops (ops_upto ts l) q false)
+      ap (λ xs. there_by ops q (has posting_cmp xs q)) (alone_read h r)
+      ∙ ap (there_by ops q) (has_after l.ops [] q ∙ said_in_turn l.ops q false a)
+      ∙ sym (said_joined ops l.ops q false)
 
   -- operations that stand on all that is below it, and on all that it puts in
   pub covered_down : (ops : List Op) → l.ts ≤ ts → stand_on_puts ops l.ops ≡ true → IsCovered ops (reading w ts) → IsCovered ops (reading v ts)

@@ -9,7 +9,8 @@ use Rattle.dg_values.proofs.OrderLaws.{posting_order}
 use Rattle.dg_sets.proofs.Sets.{is_one, is_itself, one_list}
 use Rattle.dg_delta.specs.declared.op.Op.{Op}
 use Rattle.dg_delta.specs.Ops.{posting_of, op_cmp, after_ops}
-use Rattle.dg_delta.specs.Effects.{is_set, Says}
+use Rattle.dg_delta.specs.declared.op.Op.TheVariants.{Set, Del}
+use Rattle.dg_delta.specs.Effects.{is_set, put_by_all, Says}
 use Rattle.dg_delta.proofs.OpLaws.{hits, there_after, has_after, ascends_after, moved}
 use Rattle.dg_list.specs.Gathered.{is_on, there_by, stand_on, stand_on_puts, stand_on_all}
 
@@ -120,3 +121,34 @@ from_puts ops (o ∷ os) q was h f e =
 -- and on all that it has after others, where they stand on what these put in
 pub puts_covered : (ops others : List Op) (xs : List Posting) → stand_on_puts ops others ≡ true → IsCovered ops xs → IsCovered ops (after_ops xs others)
 puts_covered ops others xs h c q e = from_puts ops others q (has posting_cmp xs q) h (c q) (sym (has_after others xs q) ∙ e)
+
+-- ---- and where nothing is left, they stand on all
+
+pub covered_if_nothing_left : (ops : List Op) (xs : List Posting) → after_ops xs ops ≡ after_ops [] ops → IsCovered ops xs
+covered_if_nothing_left ops xs e q h = by (stand_on ops q) refl
+  where
+    by : (v : Bool) → stand_on ops q ≡ v → v ≡ true
+    by true p = refl
+    by false p =
+        let kept : has posting_cmp (after_ops xs ops) q ≡ true = has_after ops xs q ∙ passed_by ops q (has posting_cmp xs q) p ∙ h in
+        let gone : has posting_cmp (after_ops [] ops) q ≡ false = has_after ops [] q ∙ passed_by ops q false p in
+        sym gone ∙ ap (λ ys. has posting_cmp ys q) (sym e) ∙ kept
+
+covered_rest : (ops : List Op) (x : Posting) (xs : List Posting) → IsCovered ops (x ∷ xs) → IsCovered ops xs
+covered_rest ops x xs c q h = c q (or_right (is_eq (posting_cmp x q)) (has posting_cmp xs q) h)
+  where
+    or_right : (a b : Bool) → b ≡ true → (a || b) ≡ true
+    or_right true b h = refl
+    or_right false b h = h
+
+covered_first : (ops : List Op) (x : Posting) (xs : List Posting) → IsCovered ops (x ∷ xs) → stand_on ops x ≡ true
+covered_first ops x xs c = c x (ap (λ b. b || has posting_cmp xs x) (is_itself posting_cmp posting_order x))
+
+pub all_from_covered : (ops : List Op) (xs : List Posting) → IsCovered ops xs → stand_on_all ops xs ≡ true
+all_from_covered ops [] c = refl
+all_from_covered ops (x ∷ xs) c = ap (λ b. b && stand_on_all ops xs) (covered_first ops x xs c) ∙ all_from_covered ops xs (covered_rest ops x xs c)
+
+pub puts_from_covered : (ops others : List Op) → IsCovered ops (put_by_all others) → stand_on_puts ops others ≡ true
+puts_from_covered ops [] c = refl
+puts_from_covered ops (Set p ∷ os) c = ap (λ b. b && stand_on_puts ops os) (covered_first ops p (put_by_all os) c) ∙ puts_from_covered ops os (covered_rest ops p (put_by_all os) c)
+puts_from_covered ops (Del p ∷ os) c = puts_from_covered ops os c

@@ -1,13 +1,13 @@
 // Whether operations stand on all that a list has.
-ghost use Rattle.std.specs.Prelude.{◌≡◌, ◌&&◌, IfOk, length, nat_le};
-ghost use Rattle.dg_values.specs.Ascending.{Ascends};
-ghost use Rattle.dg_delta.specs.Ops.{op_cmp};
+ghost use Rattle.std.specs.Prelude.{◌≡◌, ◌&&◌, length, filter, nat_le};
+ghost use Rattle.dg_values.specs.Ascending.{Ascends, has};
+ghost use Rattle.dg_values.specs.Order.{posting_cmp};
+ghost use Rattle.dg_delta.specs.Ops.{posting_of, op_cmp};
 ghost use Rattle.dg_list.specs.Gathered.{stand_on, stand_on_puts, stand_on_all};
 
 use dg_base::Base;
 use dg_delta::{Op, decide};
-use dg_values::{Mem, Posting};
-use std::alloc::Global;
+use dg_values::Posting;
 
 // Whether one of the operations is on this posting. It looks by halves.
 fn stands_on(ops: &[Op], posting: &Posting) -> bool
@@ -27,22 +27,18 @@ pub(crate) fn stand_on_puts(ops: &[Op], others: &[Op]) -> bool
         .all(|other| !other.is_set() || stands_on(ops, other.posting()))
 }
 
-// Whether the operations stand on each of these postings.
-fn stand_on_all(ops: &[Op], postings: &[Posting]) -> bool
-    requires { Ascends op_cmp ops.now }
-    ensures { result ≡ stand_on_all ops.now postings.now }
+// How many of the operations are on postings of a base.
+fn count_on(ops: &[Op], base: &Base) -> usize
+    ensures { result ≡ length (filter (λ op. has posting_cmp base.now (posting_of op)) ops.now) }
 {
-    postings.iter().all(|posting| stands_on(ops, posting))
+    ops.iter().filter(|op| base.find(op.posting())).count()
 }
 
-// Whether the operations stand on each posting of a base. A base of more postings isn't looked at.
-pub(crate) fn stand_on_base(alloc: Global, ops: &[Op], base: &Base) -> Mem<bool>
+// Whether the operations stand on each posting of a base. Neither has a posting twice, so they do where as many of them are
+// on its postings as it has.
+pub(crate) fn stand_on_base(ops: &[Op], base: &Base) -> bool
     requires { Ascends op_cmp ops.now }
-    ensures { IfOk result (λ all. all ≡ (nat_le (length base.now) (length ops.now) && stand_on_all ops.now base.now)) }
+    ensures { result ≡ (nat_le (length base.now) (length ops.now) && stand_on_all ops.now base.now) }
 {
-    if base.len() > ops.len() {
-        return Ok(false);
-    }
-    let postings = base.walk(alloc, 0, base.len())?;
-    Ok(stand_on_all(ops, postings.as_slice()))
+    base.len() <= ops.len() && count_on(ops, base) == base.len()
 }

@@ -10,7 +10,7 @@ ghost use Rattle.dg_list.specs.Links.{Replace};
 
 use crate::covering::{stand_on_base, stand_on_puts};
 use crate::deciding::decide_at;
-use crate::gathered::{after_gathered, gather};
+use crate::gathered::{after_alone, after_gathered, gather};
 use dg_base::Base;
 use dg_delta::{Layer, Op};
 use dg_values::{Mem, OutOfMemory, Posting, Steps};
@@ -112,7 +112,7 @@ impl PList {
         requires { newest_ts self.now < (arc_value layer).ts }
         ensures { IfOk result (λ list. list ≡ with_layer self.now (arc_value layer)) }
     {
-        let alone = self.is_replaced_by(alloc, layer.ops())?;
+        let alone = self.is_replaced_by(layer.ops());
         let older = Arc::new(alloc, self.share()?)?;
         Ok(PList {
             top: Link::Over {
@@ -125,14 +125,14 @@ impl PList {
 
     // Whether newer operations leave nothing of the list. It goes down by at most as many layers as there are operations,
     // so false says nothing.
-    fn is_replaced_by(&self, alloc: Global, ops: &[Op]) -> Mem<bool>
+    fn is_replaced_by(&self, ops: &[Op]) -> bool
         requires { Ascends op_cmp ops.now }
-        ensures { IfOk result (λ replaced. replaced ≡ true → Replace ops.now self.now) }
+        ensures { result ≡ true → Replace ops.now self.now }
     {
         let mut list = self;
         for _ in 0..=ops.len() {
             match &list.top {
-                Link::Rolled(_, base) => return stand_on_base(alloc, ops, base),
+                Link::Rolled(_, base) => return stand_on_base(ops, base),
                 Link::Over {
                     layer,
                     older,
@@ -140,13 +140,13 @@ impl PList {
                 } => {
                     let on_puts = stand_on_puts(ops, layer.ops());
                     if *alone || !on_puts {
-                        return Ok(on_puts);
+                        return on_puts;
                     }
                     list = older;
                 }
             }
         }
-        Ok(false)
+        false
     }
 
     // The list at a timestamp: the operations of the layers that count, from the newest down to one that stands alone or
@@ -168,10 +168,10 @@ impl PList {
                     older,
                     alone,
                 } => {
-                    gather(alloc, &mut ops, layer, ts)?;
                     if *alone && layer.ts() <= ts {
-                        return after_gathered(alloc, Vec::new(alloc), ops);
+                        return after_alone(alloc, ops, layer);
                     }
+                    gather(&mut ops, layer, ts)?;
                     list = older;
                 }
             }

@@ -1,4 +1,4 @@
-use Rattle.std.proofs.Common.{◌≡◌, ap, ◌∙◌}
+use Rattle.std.proofs.Common.{◌≡◌, ap, ◌∙◌, map}
 use Rattle.std.proofs.lemmas.Result.{IfOk-weaker}
 use Rattle.dg_values.specs.Ascending.{has}
 use Rattle.dg_values.specs.Order.{posting_cmp}
@@ -12,11 +12,11 @@ use Rattle.dg_list.proofs.gathered.after_gathered.Goals as goal
 pub returns-clause-after : goal.returns-clause-after
 returns-clause-after c =
     let postings = c.args.postings.items in
-    let newest = c.in_ok-newest.newest.items in
-    IfOk-weaker c.apply.result (λ list. list.items ≡ after_ops c.as_slice.result.now c.as_slice-2.result.now) (λ list. (q : Posting) → has posting_cmp list.items q ≡ there_by c.args.ops.items q (has posting_cmp postings q))
+    let newest = map (λ op. op.now) c.in_ok-newest.newest.items in
+    IfOk-weaker c.apply_owned.result (λ list. list.items ≡ after_ops postings (map (λ op. op.now) c.as_slice.result.now)) (λ list. (q : Posting) → has posting_cmp list.items q ≡ there_by (map (λ op. op.now) c.args.ops.items) q (has posting_cmp postings q))
     (λ list is q.
-    ap (λ xs. has posting_cmp xs q) (is ∙ (λ i. after_ops (c.as_slice.ensures.value i) (c.as_slice-2.ensures.value i)))
+    ap (λ xs. has posting_cmp xs q) (is ∙ ap (λ ops. after_ops postings (map (λ op. op.now) ops)) c.as_slice.ensures.value)
     ∙ has_after newest postings q
     ∙ said_in_turn newest q (has posting_cmp postings q) c.in_ok-newest.ensures.ascend
     ∙ c.in_ok-newest.ensures.alike q (has posting_cmp postings q))
-    c.apply.ensures.after
+    c.apply_owned.ensures.after

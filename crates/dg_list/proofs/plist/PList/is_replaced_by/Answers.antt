@@ -1,10 +1,9 @@
 use Rattle.std.proofs.Common.{◌≡◌, ◌∙◌, sym, ap, subst, arith, true}
 use Rattle.std.specs.Arc.{arc_value}
-use Rattle.std.proofs.lemmas.Result.{IfOk-weaker}
-use Rattle.std.specs.Prelude.{◌&&◌, nat_le, length}
+use Rattle.std.specs.Prelude.{nat_le, length}
 use Rattle.dg_list.specs.Lists.{IsSound, newest_ts}
 use Rattle.dg_list.specs.Gathered.{stand_on_puts, stand_on_all}
-use Rattle.dg_list.specs.Links.{list_of, IsTrueOfLink, Replace}
+use Rattle.dg_list.specs.Links.{list_of, IsTrueOfLink}
 use Rattle.dg_list.proofs.OpLemmas.{and_right}
 use Rattle.dg_list.proofs.ListLemmas.{covered_down, covered_alone, covered_replace, base_covered, top_upto, below_upto, either_true}
 use Rattle.dg_list.proofs.plist.PList.is_replaced_by.Goals as goal
@@ -13,17 +12,14 @@ pub loop-init : goal.loop-init
 loop-init c = record { sound = λ s. s; upto = omega arith; covered = λ f. f }
 
 pub returns-in-Rolled : goal.returns-in-Rolled
-returns-in-Rolled c =
+returns-in-Rolled c on =
     let self = c.args.self.now in
     let ops = c.args.ops.now in
     let base = c.deref.result.now in
     let is = ap list_of (sym c.in-Rolled.is) ∙ c.list.view_is in
     let sound = subst IsSound c.list.view_is c.list.invariant.sound in
-    IfOk-weaker c.stand_on_base.result (λ all. all ≡ (nat_le (length base) (length ops) && stand_on_all ops base)) (λ replaced. replaced ≡ true → Replace ops self)
-    (λ all e on.
-    let covers : stand_on_all ops (arc_value c.in-Rolled.base) ≡ true = ap (stand_on_all ops) (sym c.deref.ensures) ∙ and_right (nat_le (length base) (length ops)) (stand_on_all ops base) (sym e ∙ on) in
-    covered_replace ops self (c.loop.invariant.sound sound) (c.loop.invariant.covered (base_covered ops c.loop.list.now (arc_value c.in-Rolled.base) c.in-Rolled.field-0 (newest_ts self) is covers)))
-    c.stand_on_base.ensures
+    let covers : stand_on_all ops (arc_value c.in-Rolled.base) ≡ true = ap (stand_on_all ops) (sym c.deref.ensures) ∙ and_right (nat_le (length base) (length ops)) (stand_on_all ops base) (sym c.stand_on_base.ensures ∙ on) in
+    covered_replace ops self (c.loop.invariant.sound sound) (c.loop.invariant.covered (base_covered ops c.loop.list.now (arc_value c.in-Rolled.base) c.in-Rolled.field-0 (newest_ts self) is covers))
 
 pub returns-then-alone : goal.returns-then-alone
 returns-then-alone c on =
