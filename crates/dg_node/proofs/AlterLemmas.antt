@@ -20,8 +20,8 @@ use Rattle.dg_keys.specs.Keys.{pred_of}
 use Rattle.dg_edges.specs.Deltas.{IsPlain, IsPlainDefinition}
 use Rattle.dg_oracle.specs.Commits as oracle
 use Rattle.dg_zero.specs.Listings.{listing, listing_by}
-use Rattle.dg_zero.specs.declared.place.Phase.TheVariants.{Idle}
-use Rattle.dg_zero.specs.declared.place.Place.{Place}
+use Rattle.dg_zero.specs.declared.tablets.Phase.TheVariants.{Idle}
+use Rattle.dg_zero.specs.declared.tablets.Place.{Place}
 use Rattle.dg_zero.specs.Places.{is_held}
 use Rattle.dg_zero.specs.States.{Zero, AreAlterParts, IsLeastStart, first_held}
 use Rattle.dg_zero.specs.Legal.{KeepsKind, kind_rank}

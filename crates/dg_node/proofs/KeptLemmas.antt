@@ -14,8 +14,8 @@ use Rattle.dg_oracle.specs.Commits as oracle
 use Rattle.dg_zero.specs.declared.entry.Entry.{Entry}
 use Rattle.dg_zero.specs.declared.entry.Event.{Event}
 use Rattle.dg_zero.specs.declared.entry.Event.TheVariants.{Begin, Lease, Look}
-use Rattle.dg_zero.specs.declared.place.Phase.TheVariants.{Idle}
-use Rattle.dg_zero.specs.declared.place.Place.{Place}
+use Rattle.dg_zero.specs.declared.tablets.Phase.TheVariants.{Idle}
+use Rattle.dg_zero.specs.declared.tablets.Place.{Place}
 use Rattle.dg_zero.specs.Counters.{Started, next, active, active_after, ended, starts_of, is_active_of, line}
 use Rattle.dg_zero.specs.Legal.{IsLegal}
 use Rattle.dg_zero.specs.Places.{Places, places, tablets, fresh, fresh_place}

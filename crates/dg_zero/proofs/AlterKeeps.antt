@@ -15,7 +15,7 @@ use Rattle.dg_zero.specs.declared.alter.Altered.{Altered}
 use Rattle.dg_zero.specs.declared.entry.Entry.{Entry}
 use Rattle.dg_zero.specs.declared.entry.Event.{Event}
 use Rattle.dg_zero.specs.declared.entry.Event.TheVariants.{Alter}
-use Rattle.dg_zero.specs.declared.place.Place.{Place}
+use Rattle.dg_zero.specs.declared.tablets.Place.{Place}
 use Rattle.dg_zero.specs.Altering.{IsAltered}
 use Rattle.dg_zero.specs.Counters.{active, starts_of}
 use Rattle.dg_zero.specs.Places.{tablets, is_held, fresh, fresh_place}

@@ -18,7 +18,7 @@ use Rattle.dg_zero.specs.Offers.{IsSound}
 use Rattle.dg_schema.specs.declared.definition.PredDef.{PredDef}
 use Rattle.dg_keys.specs.declared.record.Tablet.{Tablet}
 use Rattle.dg_zero.specs.declared.entry.Event.TheVariants.{End, Look}
-use Rattle.dg_zero.specs.declared.place.Place.{Place}
+use Rattle.dg_zero.specs.declared.tablets.Place.{Place}
 use Rattle.dg_zero.specs.States.{Zero, IsKept, IsRefusal, and_entry, and_then, commit_of, commit_fault_of}
 use Rattle.dg_oracle.specs.Faults as of_oracle
 use Rattle.dg_oracle.specs.declared.fault.OracleFault.{OracleFault}

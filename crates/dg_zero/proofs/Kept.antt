@@ -15,8 +15,8 @@ use Rattle.dg_zero.specs.declared.entry.Event.{Event}
 use Rattle.dg_zero.specs.declared.entry.Event.TheVariants.{Begin, Refused, End, Lease, Alter, Look}
 use Rattle.dg_zero.specs.declared.entry.Reason.{Reason}
 use Rattle.dg_zero.specs.declared.offer.Offer.{Offer}
-use Rattle.dg_zero.specs.declared.place.Phase.TheVariants.{Idle}
-use Rattle.dg_zero.specs.declared.place.Place.{Place}
+use Rattle.dg_zero.specs.declared.tablets.Phase.TheVariants.{Idle}
+use Rattle.dg_zero.specs.declared.tablets.Place.{Place}
 use Rattle.dg_zero.specs.Counters.{next, next_uid_after, next_uid, Started, active, starts_of, is_active_of}
 use Rattle.dg_zero.specs.Legal.{Fits, FitsLease, IsReason}
 use Rattle.dg_zero.specs.Offers.{IsSound}

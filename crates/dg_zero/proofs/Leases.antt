@@ -8,7 +8,7 @@ use Rattle.dg_keys.specs.declared.record.Tablet.{Tablet}
 use Rattle.dg_oracle.specs.Commits as oracle
 use Rattle.dg_zero.specs.declared.entry.Entry.{Entry}
 use Rattle.dg_zero.specs.declared.entry.Event.TheVariants.{Lease}
-use Rattle.dg_zero.specs.declared.place.Place.{Place}
+use Rattle.dg_zero.specs.declared.tablets.Place.{Place}
 use Rattle.dg_zero.specs.Counters.{next_uid, leased}
 use Rattle.dg_zero.specs.Legal.{FitsLease}
 use Rattle.dg_zero.specs.States.{IsKept, and_entry}

@@ -8,7 +8,7 @@ use Rattle.dg_schema.specs.declared.definition.PredDef.{PredDef}
 use Rattle.dg_keys.specs.declared.record.Tablet.{Tablet}
 use Rattle.dg_keys.specs.Tablets.{tablet_cmp}
 use Rattle.dg_values.specs.Ascending.{with_one}
-use Rattle.dg_zero.specs.declared.place.Place.{Place}
+use Rattle.dg_zero.specs.declared.tablets.Place.{Place}
 use Rattle.dg_zero.specs.States.{tablet_of, owners_of}
 use Rattle.dg_zero.specs.Places.{groups, owned, fewest, fresh, fresh_place, is_place_of, at_rest}
 

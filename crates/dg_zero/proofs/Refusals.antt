@@ -11,9 +11,9 @@ use Rattle.dg_oracle.specs.Commits as oracle
 use Rattle.dg_oracle.specs.Verdicts as judged
 use Rattle.dg_oracle.specs.declared.verdict.Verdict.TheVariants as verdicts
 use Rattle.dg_zero.specs.declared.entry.Entry.{Entry}
-use Rattle.dg_zero.specs.declared.place.Phase.TheVariants.{Idle}
+use Rattle.dg_zero.specs.declared.tablets.Phase.TheVariants.{Idle}
 use Rattle.dg_zero.specs.declared.entry.Reason.TheVariants.{Conflict}
-use Rattle.dg_zero.specs.declared.place.Place.{Place}
+use Rattle.dg_zero.specs.declared.tablets.Place.{Place}
 use Rattle.dg_zero.specs.Places.{tablets, is_held, is_held_phase, phase_by, is_place_of}
 use Rattle.dg_zero.specs.Verdicts.{commits, first, conflict, reason_by, verdict}
 use Rattle.dg_zero.specs.Legal.{IsReason}

@@ -4,7 +4,7 @@ use Rattle.std.specs.Arc.{arc_value}
 use Rattle.dg_schema.specs.declared.definition.PredDef.{PredDef}
 use Rattle.dg_schema.specs.Definitions.{with_definitions, AreDistinct}
 use Rattle.dg_zero.specs.declared.alter.Altered.{Altered}
-use Rattle.dg_zero.specs.declared.place.Place.{Place}
+use Rattle.dg_zero.specs.declared.tablets.Place.{Place}
 use Rattle.dg_zero.specs.Places.{fresh, fresh_place}
 use Rattle.dg_zero.specs.States.{owners_of}
 

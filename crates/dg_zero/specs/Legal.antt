@@ -13,7 +13,7 @@ use Rattle.dg_zero.specs.Listings.{AreGainsAndLosses}
 use Rattle.dg_zero.specs.declared.entry.Entry.{Entry}
 use Rattle.dg_zero.specs.declared.entry.Event.{Event}
 use Rattle.dg_zero.specs.declared.entry.Event.TheVariants as events
-use Rattle.dg_zero.specs.declared.place.Phase.TheVariants.{Idle, Started, Copied, Held}
+use Rattle.dg_zero.specs.declared.tablets.Phase.TheVariants.{Idle, Started, Copied, Held}
 use Rattle.dg_zero.specs.declared.entry.Reason.{Reason}
 use Rattle.dg_zero.specs.declared.entry.Reason.TheVariants.{Moving, Conflict}
 use Rattle.dg_zero.specs.Counters.{next, last, next_uid, active, is_active_of, line, line_now}

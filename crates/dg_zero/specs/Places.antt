@@ -7,9 +7,9 @@ use Rattle.dg_keys.specs.declared.record.Tablet.{Tablet}
 use Rattle.dg_zero.specs.declared.entry.Entry.{Entry}
 use Rattle.dg_zero.specs.declared.entry.Event.{Event}
 use Rattle.dg_zero.specs.declared.entry.Event.TheVariants.{Alter, Line, Rolled, MoveStart, MoveCopied, MoveHold, Flip, MoveOff}
-use Rattle.dg_zero.specs.declared.place.Phase.{Phase}
-use Rattle.dg_zero.specs.declared.place.Phase.TheVariants.{Idle, Started, Copied, Held}
-use Rattle.dg_zero.specs.declared.place.Place.{Place}
+use Rattle.dg_zero.specs.declared.tablets.Phase.{Phase}
+use Rattle.dg_zero.specs.declared.tablets.Phase.TheVariants.{Idle, Started, Copied, Held}
+use Rattle.dg_zero.specs.declared.tablets.Place.{Place}
 
 -- a group's copy of a tablet: up to where it was merged, and the last timestamp at which an old copy is read
 pub record Copy : Type 0 where

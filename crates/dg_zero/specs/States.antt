@@ -21,8 +21,8 @@ use Rattle.dg_zero.specs.declared.fault.CommitFault.TheVariants as commits
 use Rattle.dg_zero.specs.declared.fault.ZeroFault.{ZeroFault}
 use Rattle.dg_zero.specs.declared.fault.ZeroFault.TheVariants as faults
 use Rattle.dg_zero.specs.declared.offer.Offer.{Offer}
-use Rattle.dg_zero.specs.declared.place.Phase.TheVariants.{Idle}
-use Rattle.dg_zero.specs.declared.place.Place.{Place}
+use Rattle.dg_zero.specs.declared.tablets.Phase.TheVariants.{Idle}
+use Rattle.dg_zero.specs.declared.tablets.Place.{Place}
 use Rattle.dg_zero.specs.Counters.{next, next_uid, active, starts_of}
 use Rattle.dg_zero.specs.Worlds.{world, schema}
 use Rattle.dg_zero.specs.Listings.{AreGainsAndLosses}

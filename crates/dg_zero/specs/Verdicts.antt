@@ -13,7 +13,7 @@ use Rattle.dg_zero.specs.declared.entry.Event.{Event}
 use Rattle.dg_zero.specs.declared.entry.Event.TheVariants as events
 use Rattle.dg_zero.specs.declared.entry.Reason.{Reason}
 use Rattle.dg_zero.specs.declared.entry.Reason.TheVariants.{Moving, Conflict}
-use Rattle.dg_zero.specs.declared.place.Place.{Place}
+use Rattle.dg_zero.specs.declared.tablets.Place.{Place}
 use Rattle.dg_zero.specs.Places.{tablets, is_held}
 
 -- the keys that an event commits

@@ -9,7 +9,7 @@ ghost use Rattle.dg_zero.specs.Worlds.{schema};
 
 use crate::fresh::{fresh_places, tablets_of, with_places};
 use crate::past::append;
-use crate::place::Place;
+use crate::tablets::Place;
 use crate::{Event, Owners, Slip, ZeroFault, ZeroState};
 use dg_keys::{Part, Record, Tablet};
 use dg_schema::Schema;

@@ -4,7 +4,7 @@ ghost use Rattle.std.specs.List.{list_any};
 ghost use Rattle.dg_zero.specs.Places.{is_place_of, owned, fewest, groups, fresh, fresh_place};
 ghost use Rattle.dg_zero.specs.States.{tablet_of};
 
-use crate::place::{Phase, Place};
+use crate::tablets::{Phase, Place};
 use dg_keys::Tablet;
 use dg_schema::PredDef;
 use dg_values::{List, Mem, OutOfMemory, Str};

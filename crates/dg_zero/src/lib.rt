@@ -15,10 +15,10 @@ mod lease;
 mod offer;
 mod owners;
 mod past;
-mod place;
 mod present;
 mod seen;
 mod stream;
+mod tablets;
 mod zero;
 
 pub use entry::{Entry, Event, Reason};
@@ -27,8 +27,8 @@ pub use laws::{each_history, longer_histories, schemas_of_starts};
 pub use offer::Offer;
 pub use owners::Owners;
 pub use past::Slip;
-pub use place::Phase;
 pub use seen::Seen;
+pub use tablets::Phase;
 pub use zero::{Begun, ZeroState};
 
 #[cfg(test)]

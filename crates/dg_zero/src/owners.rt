@@ -4,7 +4,7 @@ ghost use Rattle.dg_values.specs.Ascending.{Ascends, with_one};
 ghost use Rattle.dg_keys.specs.Tablets.{tablet_cmp};
 ghost use Rattle.dg_zero.specs.States.{owners_of, tablet_of};
 
-use crate::place::Place;
+use crate::tablets::Place;
 use dg_keys::Tablet;
 use dg_sets::put;
 use dg_values::{Mem, OutOfMemory};

@@ -9,8 +9,8 @@ ghost use Rattle.dg_zero.specs.States.{and_then, owners, IsBeginFault};
 ghost use Rattle.dg_zero.specs.Worlds.{schema};
 
 use crate::past::{Past, append};
-use crate::place::Place;
 use crate::stream::record_after;
+use crate::tablets::Place;
 use crate::{Event, Owners, Slip, ZeroFault};
 use dg_keys::{ConflictKey, Record};
 use dg_oracle::Oracle;
