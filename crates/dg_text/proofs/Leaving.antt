@@ -33,6 +33,11 @@ pub step : {E A B : Type 0} (Q : B → List E → Type 0) (left mid : List E) (r
 step Q left mid (Ok x) more e l follows = follows x.0 x.1 (further left mid x.1 e l)
 step Q left mid (Err place) more e l follows = tt
 
+-- the last part of a chain
+pub last : {E A : Type 0} (left mid : List E) (read : Read (List E) A) → Ends left mid → Leaves mid read → Leaves left read
+last left mid (Ok x) e l = further left mid x.1 e l
+last left mid (Err place) e l = tt
+
 -- one token, and then what follows it
 pub past : {E B : Type 0} (Q : B → List E → Type 0) (left mid : List E) (is : E → Bool) (more : Unit {0} → Reader (List E) B)
     → Ends left mid → ((rest : List E) → Shorter left rest → AllOf Q (more tt rest)) → AllOf Q (and_then (skip is mid) more)
@@ -71,12 +76,8 @@ pub turns_leave : {E A : Type 0} (begins : List E → Bool) (part : A → Reader
     → (n : ℕ) (before : A) (left : List E) → Leaves left (turns n begins part before left)
 unfolding turns
 turns_leave begins part leaves zero before left = all_left left
-turns_leave {E = E} {A = A} begins part leaves (suc n) before left =
+turns_leave begins part leaves (suc n) before left =
     one_of (λ _ l. Ends left l) (begins left) (and_then (part before left) (turns n begins part)) (Ok (before, left))
     (step (λ _ l. Ends left l) left left (part before left) (turns n begins part) (all_left left) (leaves before left)
-    (λ x rest e. again (turns n begins part x rest) rest e (turns_leave begins part leaves n x rest)))
+    (λ x rest e. last left rest (turns n begins part x rest) e (turns_leave begins part leaves n x rest)))
     (all_left left)
-  where
-    again : (read : Read (List E) A) (rest : List E) → Ends left rest → Leaves rest read → Leaves left read
-    again (Ok y) rest e l = further left rest y.1 e l
-    again (Err place) rest e l = tt
