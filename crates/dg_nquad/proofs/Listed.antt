@@ -1,20 +1,18 @@
 -- Statements stand one after the other: each takes tokens, and leaves those behind it.
-use Rattle.std.proofs.Common.{◌≡◌, ◌↔◌, ℕ, Bool, true, false, ◌&&◌, List, [], ◌∷◌, ◌++◌, length, refl, sym, ap, subst, ◌∙◌}
-use Rattle.std.specs.Prelude.{codes, not, Option, Some, None, Ok, Err, is_some}
-use Rattle.dg_text.specs.Reading.{Read, Reader, and_then, next, one_as, optional, skip, turns, repeated, give, here, refuse_at}
-use Rattle.dg_text.specs.Tokens.{Tok, is_iri, is_punct, is_word, is_blank, is_caret, is_quoted}
+use Rattle.std.proofs.Common.{◌≡◌, ◌↔◌, ℕ, Bool, true, false, ◌&&◌, List, ◌++◌, length, refl, subst}
+use Rattle.std.specs.Prelude.{codes, not, Option, None, Ok}
+use Rattle.dg_text.specs.Reading.{Read, next, one_as, optional, skip, refuse_at}
+use Rattle.dg_text.specs.Tokens.{Tok, is_punct, is_word, is_caret, is_quoted}
 use Rattle.dg_text.specs.Marks as marks
 use Rattle.dg_text.specs.Words.{name_meant, predicate_meant}
 use Rattle.dg_text.specs.Said.{quoted_meant}
 use Rattle.dg_text.specs.Listed.{AreListed}
-use Rattle.dg_text.proofs.Leaving.{Ends, Shorter, Leaves, AllOf, all_left, step, past, one_of, skip_leaves, one_leaves}
+use Rattle.dg_text.proofs.Leaving.{Ends, Leaves, AllOf, all_left, step, past, one_of, skip_leaves, one_leaves}
 use Rattle.dg_text.proofs.Listing.{Adds, AddsOne, lists}
 use Rattle.dg_values.specs.declared.kind.Kind.{Kind}
 use Rattle.dg_nquad.specs.declared.block.Block.{Block}
 use Rattle.dg_nquad.specs.declared.mutation.Node.{Node}
-use Rattle.dg_nquad.specs.declared.mutation.Node.TheVariants as nodes
 use Rattle.dg_nquad.specs.declared.mutation.Object.{Object}
-use Rattle.dg_nquad.specs.declared.mutation.Object.TheVariants as objects
 use Rattle.dg_nquad.specs.declared.mutation.Statement.{Statement}
 use Rattle.dg_nquad.specs.Grammar.{variable, uid_variable, node, type_tag, literal, val_variable, all_objects, node_object, object, statement, statements, begins_statement, is_label}
 use Rattle.dg_nquad.specs.Words.{node_meant, kind_meant}

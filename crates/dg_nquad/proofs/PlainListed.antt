@@ -1,5 +1,5 @@
 -- A text without groups says the statements that its tokens are.
-use Rattle.std.proofs.Common.{◌≡◌, ◌↔◌, ℕ, ◌==◌, Bool, true, false, cond, List, [], ◌∷◌, length, refl, sym, ap, ◌∙◌, arith}
+use Rattle.std.proofs.Common.{◌≡◌, ◌↔◌, ℕ, ◌==◌, false, List, [], ◌∷◌, length, refl, sym, ap, ◌∙◌, arith}
 use Rattle.std.specs.Prelude.{Result, Ok, Err}
 use Rattle.dg_text.specs.Reading.{Read, next}
 use Rattle.dg_text.specs.Tokens.{Tok, is_punct, toks_of}

@@ -1,9 +1,9 @@
 -- Statements stand one after the other: each takes tokens, and leaves those behind it.
-use Rattle.std.proofs.Common.{◌≡◌, ◌↔◌, ℕ, ◌==◌, ◌&&◌, not, Bool, true, false, List, [], ◌∷◌, ◌++◌, length, refl, sym, ap, subst, ◌∙◌, arith}
-use Rattle.std.specs.Prelude.{Result, Ok, Err}
+use Rattle.std.proofs.Common.{◌≡◌, ◌↔◌, not, Bool, true, false, List, [], ◌∷◌, ◌++◌, length, refl, subst}
+use Rattle.std.specs.Prelude.{Ok, Err}
 use Rattle.dg_values.specs.declared.kind.Tokenizer.{Tokenizer}
-use Rattle.dg_text.specs.Reading.{Read, and_then, next, one_as, optional, skip, turns, repeated, refuse_at}
-use Rattle.dg_text.specs.Tokens.{Tok, is_at, is_punct, toks_of}
+use Rattle.dg_text.specs.Reading.{Read, and_then, next, one_as, optional, skip, repeated, refuse_at}
+use Rattle.dg_text.specs.Tokens.{Tok, is_at, is_punct}
 use Rattle.dg_text.specs.Marks.{colon, comma, dot, open_round, close_round, open_square, close_square}
 use Rattle.dg_text.specs.Words.{predicate_meant}
 use Rattle.dg_text.specs.Listed.{AreListed}
@@ -16,7 +16,7 @@ use Rattle.dg_schema.specs.declared.statement.Statement.{Statement}
 use Rattle.dg_schema.specs.declared.words.Directive.{Directive}
 use Rattle.dg_schema.specs.declared.words.Directive.TheVariants as directives
 use Rattle.dg_schema.specs.Words.{kind_meant, tokenizer_meant, directive_meant}
-use Rattle.dg_schema.specs.Grammar.{scalar, list_type, type_of, comma_tokenizer, tokenizers, index, after_word, directive, unmarked, stated, is_allowed, define, statement, statements, begins_statement}
+use Rattle.dg_schema.specs.Grammar.{scalar, list_type, type_of, comma_tokenizer, tokenizers, index, after_word, directive, unmarked, stated, is_allowed, define, statement, begins_statement}
 
 -- the end of what is left
 abbrev End : (A : Type 0) → List Tok → A → List Tok → Type 0

@@ -1,17 +1,15 @@
 -- A text is read as definitions exactly where its tokens are those of their statements.
-use Rattle.std.proofs.Common.{◌≡◌, ◌↔◌, ℕ, zero, suc, ◌+◌, ◌-◌, ◌<◌, ◌==◌, ◌&&◌, Bool, true, false, List, [], ◌∷◌, length, refl, sym, ap, subst, ◌∙◌, arith}
+use Rattle.std.proofs.Common.{◌≡◌, ◌↔◌, ℕ, ◌-◌, ◌==◌, ◌&&◌, Bool, true, false, List, [], ◌∷◌, length, refl, sym, ap, subst, ◌∙◌, arith}
 use Rattle.std.specs.Prelude.{Result, Ok, Err, if◌then◌else◌}
 use Rattle.std.proofs.lemmas.Grind.{common_steps}
 use Rattle.dg_text.specs.declared.token.Token.{Token}
 use Rattle.dg_text.specs.Lexing.{front, skip_gap, gap}
-use Rattle.dg_text.specs.Listed.{AreListed}
 use Rattle.dg_text.specs.Places.{offset_of}
 use Rattle.dg_text.specs.Reading.{Read, turns}
-use Rattle.dg_text.specs.Tokenized.{TokensOf}
 use Rattle.dg_text.specs.Tokens.{Tok, toks_of}
 use Rattle.dg_text.proofs.TokenLists.{front_is, front_reads, tokens_are}
 use Rattle.dg_schema.specs.declared.definition.PredDef.{PredDef}
-use Rattle.dg_schema.specs.Grammar.{begins_statement, statement, statements}
+use Rattle.dg_schema.specs.Grammar.{statements}
 use Rattle.dg_schema.specs.Laws.{IsListed}
 use Rattle.dg_schema.specs.Whole.{schema, from_front, outcome, line_at}
 use Rattle.dg_schema.proofs.BackAgain.{whole_read}

@@ -1,10 +1,10 @@
 -- A repeated part that adds one member a turn reads exactly the lists whose members stand one after the other.
-use Rattle.std.proofs.Common.{◌≡◌, ◌↔◌, ℕ, zero, suc, ◌+◌, ◌≤◌, ◌<◌, Bool, true, false, List, [], ◌∷◌, ◌++◌, length, length-append, append_assoc, append-nil, refl, sym, ap, subst, ◌∙◌, arith, inl, inr}
+use Rattle.std.proofs.Common.{◌≡◌, ◌↔◌, ℕ, zero, suc, ◌≤◌, ◌<◌, Bool, true, false, List, [], ◌∷◌, ◌++◌, length, length-append, append_assoc, append-nil, refl, sym, ap, subst, ◌∙◌, arith, inl, inr}
 use Rattle.std.specs.Prelude.{Ok, Err}
 use Rattle.std.proofs.lemmas.Bool.{cases_Bool}
 use Rattle.dg_text.specs.Reading.{Read, Reader, and_then, turns, repeated}
-use Rattle.dg_text.specs.Listed.{HasNext, AreListed}
-use Rattle.dg_text.proofs.Leaving.{Ends, Shorter}
+use Rattle.dg_text.specs.Listed.{AreListed}
+use Rattle.dg_text.proofs.Leaving.{Shorter}
 
 -- one member was added, and its tokens were taken
 pub record Adds {E S : Type 0} (before x : List S) (left rest : List E) : Type 0 where

@@ -1,5 +1,5 @@
 -- A list whose members stand one after the other in what is left.
-use Rattle.std.specs.Prelude.{◌≡◌, ℕ, ◌<◌, Bool, true, false, List, [], ◌∷◌, ◌++◌, length, Ok}
+use Rattle.std.specs.Prelude.{◌≡◌, ◌<◌, Bool, true, false, List, [], ◌∷◌, ◌++◌, length, Ok}
 use Rattle.dg_text.specs.Reading.{Reader}
 
 -- The first member of what is left: its own tokens, of which there are some, and which the part reads behind the members
