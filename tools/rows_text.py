@@ -157,6 +157,54 @@ def row_next(fields: str) -> str:
     return f"{seen}; next name {tests['name']} at {tests['at']} sign {is_sign}; left {left}; {after}"
 
 
+RESERVED = ("uid", "count", "val", "min", "max", "sum", "as", "expand")
+
+
+def said(token: Optional[Spelled]) -> str:
+    """The node, the number or the predicate that a token says."""
+    if token is None:
+        return "the end"
+    if token.kind == "Uid":
+        return f"node {hex(int(token.text, 16))}"
+    if token.kind == "Int":
+        number = int(token.text)
+        return f"number {number}" if -(2**63) <= number < 2**63 else "a wide number"
+    if token.kind == "Name" or (token.kind == "Iri" and plain.is_whole(plain.NAME, token.text)):
+        return f"predicate {token.text}"
+    return "none of these"
+
+
+def row_word(fields: str) -> str:
+    number, word, text = fields.split("\t")
+    found, stop = tokens(of_field(text))
+    if stop is not None:
+        raise Unreadable
+    here, behind = (found[at] if at < len(found) else None for at in (int(number), int(number) + 1))
+    name = here.text if here is not None and here.kind == "Name" else None
+    tests = {
+        "word": name == word,
+        "any case": name is not None and name.lower() == word.lower(),
+        "reserved": name in RESERVED,
+        "before it": name is not None and behind is not None and (behind.kind, behind.text) == ("Name", word),
+        "before :": name is not None and behind is not None and behind.kind == ":",
+    }
+    return " ".join(f"{test} {truth(holds)}" for test, holds in tests.items()) + f"; {said(here)}"
+
+
+def row_deep(fields: str) -> str:
+    most, text = fields.split("\t")
+    found, stop = tokens(of_field(text))
+    if stop is not None:
+        raise Unreadable
+    opened = closed = 0
+    for token in found:
+        opened += token.kind in ("{", "(", "[")
+        closed += token.kind in ("}", ")", "]")
+        if opened - closed > int(most):
+            return f"too deep at byte {token.start}"
+    return "nowhere"
+
+
 # ---------------------------------------------------------------------------------------------------
 # Schemas
 # ---------------------------------------------------------------------------------------------------
@@ -393,6 +441,12 @@ FAULTS = {
     "TreeFault from OutOfMemory": "out of memory",
 }
 
+# What the statements of an upsert block say, by hand.
+UPSERTS = {
+    'uid(v) p val(x) . _:a q uid ( a.b ) . <0x1> uid "a" .': 'set uid(v) p val(x). set _:a q uid(a.b). set 0x1 uid "a".',
+    'uid(<v>) p "a" .': "fault with 5 left",
+}
+
 # The tables whose one field is a text.
 TEXTS: dict[str, Callable[[str], str]] = {
     "tokens": row_tokens,
@@ -408,9 +462,9 @@ TEXTS: dict[str, Callable[[str], str]] = {
 
 
 def tables() -> dict[str, Callable[[str], str]]:
-    others = {"name": row_name, "next": row_next, "held": Held().row, "tree": row_tree, "size": row_size}
+    others = {"name": row_name, "next": row_next, "word": row_word, "deep": row_deep, "held": Held().row, "tree": row_tree, "size": row_size}
     texts = {name: lambda field, row=row: row(of_field(field)) for name, row in TEXTS.items()}
-    return {**others, **texts, "fault": FAULTS.__getitem__}
+    return {**others, **texts, "upsert": UPSERTS.__getitem__, "fault": FAULTS.__getitem__}
 
 
 def answers(rows: Iterator[str]) -> Iterator[str]:

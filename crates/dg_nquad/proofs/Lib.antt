@@ -1,2 +1,4 @@
 pub mod NoVariables
 pub mod TokensSay
+pub mod Listed
+pub mod PlainListed

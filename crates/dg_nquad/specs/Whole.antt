@@ -1,5 +1,5 @@
 -- The mutation of a whole text, or its fault.
-use Rattle.std.specs.Prelude.{ℕ, ◌-◌, ◌==◌, List, [], ◌∷◌, length, drop, Result, Ok, Err, ◌≡◌, if◌then◌else◌}
+use Rattle.std.specs.Prelude.{ℕ, ◌==◌, List, length, Result, Ok, Err, ◌≡◌, if◌then◌else◌}
 use Rattle.dg_text.specs.Reading.{Read}
 use Rattle.dg_text.specs.Tokens.{Tok, toks_of}
 use Rattle.dg_text.specs.Lexing.{lexed}

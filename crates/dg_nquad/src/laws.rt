@@ -1,7 +1,14 @@
-// What the tokens of a text say.
-ghost use Rattle.dg_nquad.specs.Laws.{QuotedSays};
+// What the tokens of a text say, and that its statements stand one after the other.
+ghost use Rattle.dg_nquad.specs.Laws.{PlainIsListed, QuotedSays, StatementsAreListed};
 
 /// Each Quoted of a text that is read stands between quotes, and each Blank has a name.
 pub fn tokens_say()
     ensures { QuotedSays }
+{}
+
+/// Statements are read exactly where their tokens stand one after the other. A text without groups is read exactly where
+/// it has no token else.
+pub fn statements_are_listed()
+    ensures read { StatementsAreListed }
+    ensures plain { PlainIsListed }
 {}

@@ -44,7 +44,7 @@ said_read definitions ts r a e =
     ap statements same ∙ lines_read (length all) starts [] definitions (omega (arith, length_spread starts (lines_say definitions))) r a
 
 -- where the tokens of a text end with it, its schema is what they say
-whole_read : (text : List ℕ) (tokens : List Token) (definitions : List PredDef) → front text ≡ Ok (tokens, []) → statements (toks_of text tokens) ≡ Ok (definitions, []) → schema text ≡ Ok definitions
+pub whole_read : (text : List ℕ) (tokens : List Token) (definitions : List PredDef) → front text ≡ Ok (tokens, []) → statements (toks_of text tokens) ≡ Ok (definitions, []) → schema text ≡ Ok definitions
 whole_read text tokens definitions f s =
     let end : length text - 0 ≡ length text = omega arith in
     let here : (length text == length text) ≡ true = eq-eqb (length text) (length text) refl in

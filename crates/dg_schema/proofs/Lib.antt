@@ -10,3 +10,5 @@ pub mod Understood
 pub mod BackAgain
 pub mod WholeNames
 pub mod Writable
+pub mod Listed
+pub mod WholeListed

@@ -1,5 +1,5 @@
 -- The grammar of the schema language, written as it is read.
-use Rattle.std.specs.Prelude.{ℕ, Bool, true, false, ◌||◌, ◌&&◌, not, List, [], ◌∷◌, ◌++◌, length, Option, Some, None, is_some, ◌==◌, if◌then◌else◌}
+use Rattle.std.specs.Prelude.{Bool, true, false, ◌||◌, ◌&&◌, not, List, [], ◌∷◌, ◌++◌, length, Option, Some, None, is_some, ◌==◌, if◌then◌else◌}
 use Rattle.std.specs.List.{list_any, list_all}
 use Rattle.dg_text.specs.Reading as reading
 use Rattle.dg_text.specs.Reading.{◌>>=◌, ◌>>◌, Read, give, here, refuse_at, next, skip, one_as, choose, optional, repeated}

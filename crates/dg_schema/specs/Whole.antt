@@ -1,5 +1,5 @@
 -- The schema of a whole text, or the line of its fault.
-use Rattle.std.specs.Prelude.{ℕ, ◌+◌, ◌-◌, ◌&&◌, ◌==◌, List, [], ◌∷◌, length, take, drop, Result, Ok, Err, ◌≡◌, if◌then◌else◌}
+use Rattle.std.specs.Prelude.{ℕ, ◌+◌, ◌-◌, ◌&&◌, ◌==◌, List, [], ◌∷◌, length, take, Result, Ok, Err, ◌≡◌, if◌then◌else◌}
 use Rattle.dg_text.specs.Reading.{Read}
 use Rattle.dg_text.specs.Tokens.{Tok, toks_of}
 use Rattle.dg_text.specs.Lexing.{front}

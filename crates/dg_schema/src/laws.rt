@@ -1,5 +1,5 @@
 // What holds of definitions that are added to others, and of their text.
-ghost use Rattle.dg_schema.specs.Laws.{JoinsInPlace, KeepsNamesInOrder, NewerComesFirst, StaysDistinct};
+ghost use Rattle.dg_schema.specs.Laws.{JoinsInPlace, KeepsNamesInOrder, NewerComesFirst, SchemaIsListed, StatementsAreListed, StaysDistinct};
 ghost use Rattle.dg_schema.specs.Readable.{JoinsReadable, ReadsBack, ReadsReadable};
 
 /// Where definitions are added to older ones, a name has its newer definition before its older one, names stay
@@ -17,4 +17,10 @@ pub fn schemas_read_back()
     ensures back { ReadsBack }
     ensures readable { ReadsReadable }
     ensures joined { JoinsReadable }
+{}
+
+/// Statements are read exactly where their tokens stand one after the other, and a text exactly where it has no token else.
+pub fn statements_are_listed()
+    ensures read { StatementsAreListed }
+    ensures whole { SchemaIsListed }
 {}

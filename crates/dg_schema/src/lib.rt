@@ -15,6 +15,6 @@ mod words;
 
 pub use definition::PredDef;
 pub use fault::SchemaFault;
-pub use laws::{definitions_join, schemas_read_back};
+pub use laws::{definitions_join, schemas_read_back, statements_are_listed};
 pub use reading::read_schema;
 pub use schema::Schema;

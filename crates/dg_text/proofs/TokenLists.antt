@@ -1,13 +1,10 @@
 -- The tokens of a text.
 use Rattle.std.proofs.Common.{◌≡◌, ◌↔◌, ℕ, zero, suc, ◌+◌, ◌-◌, ◌≤◌, ◌<◌, true, false, List, [], ◌∷◌, ◌++◌, length, drop, length-append, length-drop, append_assoc, append-nil, refl, sym, ap, subst, ◌∙◌, arith}
-use Rattle.std.specs.Prelude.{Option, Some, None, Result, Ok, Err, IfOk, IfErr, Vec, is_some}
-use Rattle.std.specs.declared.alloc.Global.{Global}
-use Rattle.dg_text.specs.declared.reading.ReadError.{ReadError}
-use Rattle.dg_text.specs.declared.reading.ReadError.TheVariants as errors
+use Rattle.std.specs.Prelude.{Option, Some, None, Result, Ok, Err, is_some}
 use Rattle.std.specs.List.{concat}
 use Rattle.std.proofs.lemmas.List.{drop_all}
 use Rattle.dg_text.specs.declared.token.Token.{Token}
-use Rattle.dg_text.specs.Reading.{Read, Gives, turns, repeated}
+use Rattle.dg_text.specs.Reading.{Read, turns, repeated}
 use Rattle.dg_text.specs.Forms.{Sized, token_at}
 use Rattle.dg_text.specs.Lexing.{skip_gap, token, token_starts, front, all_of, lexed}
 use Rattle.dg_text.specs.Tokenized.{Starts, IsGap, TokensFrom, TokensOf, StopsAt}

@@ -1,5 +1,5 @@
 -- Reading with cases beside the grammar, which refuse a token that was passed. The first place in the text counts.
-use Rattle.std.specs.Prelude.{ℕ, Bool, true, false, ◌&&◌, List, [], ◌∷◌, length, drop, max, Option, Some, None, Result, Ok, Err, ◌≡◌, ◌==◌, if◌then◌else◌}
+use Rattle.std.specs.Prelude.{ℕ, Bool, ◌&&◌, List, length, drop, max, Result, Ok, Err, ◌≡◌, ◌==◌, if◌then◌else◌}
 use Rattle.dg_text.specs.Tokens.{Tok, is_punct, is_word}
 use Rattle.dg_text.specs.Words.{name_meant}
 use Rattle.dg_text.specs.Said.{quoted_meant}

@@ -10,6 +10,7 @@ mod readers;
 mod schemas;
 mod tokens;
 mod trees;
+mod words;
 
 use crate::pictures::plain;
 use crate::schemas::Held;
@@ -51,6 +52,8 @@ fn answer(alloc: Global, held: &mut Held, table: &str, fields: &str) -> Mem<Opti
     match table {
         "name" => readers::name(alloc, fields),
         "next" => readers::next(alloc, fields),
+        "word" => words::word(alloc, fields),
+        "deep" => words::deep(alloc, fields),
         "held" => schemas::call(alloc, held, fields),
         "tree" => trees::text(alloc, fields),
         "size" => trees::size(alloc, fields),
@@ -76,6 +79,7 @@ fn answer_to_text(alloc: Global, table: &str, text: &str) -> Mem<Option<String>>
         "schema" => schemas::definitions(alloc, text),
         "printed" => schemas::printed(alloc, text),
         "mutation" => mutations::mutation(alloc, text),
+        "upsert" => mutations::upsert(alloc, text),
         "cut" => mutations::cut(alloc, text),
         _ => Ok(None),
     }

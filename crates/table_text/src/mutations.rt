@@ -3,8 +3,12 @@ ghost use Rattle.std.specs.Prelude.{◌≤◌, length};
 
 use crate::MOST;
 use crate::pictures::pictured;
+use dg_nquad::block::Block;
+use dg_nquad::grammar::statements_at;
 use dg_nquad::{Node, NquadFault, Object, Statement, read_mutation};
-use dg_values::{Kind, Mem};
+use dg_text::pieces::pieces;
+use dg_text::{ReadError, lex};
+use dg_values::{Kind, List, Mem, OutOfMemory};
 use std::alloc::Global;
 use std::fmt::Write;
 use std::str;
@@ -19,6 +23,26 @@ pub(crate) fn mutation(alloc: Global, text: &str) -> Mem<Option<String>>
             Ok(Some(pictured(alloc, statements.as_str())?))
         }
         Err(fault) => Ok(Some(fault.to_string(alloc)?)),
+    }
+}
+
+// The statements of an upsert block that sets, up to the first token that begins none.
+#[tactic(auto, using(dg_text::proofs::Small::are_small))]
+pub(crate) fn upsert(alloc: Global, text: &str) -> Mem<Option<String>>
+    requires { length text.now ≤ 1048576 }
+{
+    let block = Block {
+        delete: false,
+        upsert: true,
+    };
+    let Ok(tokens) = lex(alloc, text) else {
+        return Ok(None);
+    };
+    let all = pieces(alloc, text, tokens.as_slice())?;
+    match statements_at(alloc, block, List::new(alloc), all.as_slice(), 0) {
+        Ok((statements, _)) => Ok(Some(statements_text(alloc, statements.as_slice())?)),
+        Err(ReadError::OutOfMemory) => Err(OutOfMemory),
+        Err(ReadError::Fault { left }) => Ok(Some(format!(in alloc; "fault with {left} left")?)),
     }
 }
 

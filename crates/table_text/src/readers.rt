@@ -4,11 +4,11 @@ ghost use Rattle.std.specs.Prelude.{◌≤◌, length};
 use crate::MOST;
 use crate::pictures::plain;
 use crate::tokens::kind_text;
+use dg_text::choices::{next_is_at, next_is_name, next_is_punct};
+use dg_text::kinds::{is_a_name, is_a_punct, is_an_at, is_an_iri};
 use dg_text::pieces::pieces;
-use dg_text::reading::{
-    is_a_name, is_a_punct, is_an_at, is_an_iri, left, next_is_at, next_is_name, next_is_punct,
-    peek, punct,
-};
+use dg_text::reading::{left, peek};
+use dg_text::single::punct;
 use dg_text::{Piece, ReadError, lex, name_len};
 use dg_values::Mem;
 use std::alloc::Global;

@@ -1,4 +1,4 @@
-use Rattle.std.proofs.Common.{◌≡◌, ◌+◌, ◌-◌, ◌≤◌, ◌<◌, ◌∷◌, [], length, drop, arith, rules}
+use Rattle.std.proofs.Common.{◌≡◌, ◌+◌, ◌∷◌, [], drop, arith, rules}
 use Rattle.dg_text.specs.Tokens.{tok, toks}
 use Rattle.dg_text.proofs.TokenLemmas.{toks_end}
 use Rattle.dg_text.specs.Brackets.{opens, closes, counted, too_deep}
