@@ -54,7 +54,7 @@ impl Cursor {
                 room: ROOM,
             }
         } else {
-            let read = groups_at(bytes, self.at, 9);
+            let read = number_at(bytes, self.at);
             Cursor {
                 last: self.last + read.number,
                 at: read.next,
@@ -83,6 +83,27 @@ fn first_at(bytes: &[u8], at: usize) -> u64
 {
     let (_, rest) = bytes.split_at(at);
     u64::from_be_bytes(*rest.first_chunk::<8>().unwrap())
+}
+
+// The number in groups of 7 bits at a place. Most numbers have one group.
+fn number_at(bytes: &[u8], at: usize) -> Grouped
+    requires within { has_groups 9 (drop at bytes.now) ≡ true }
+    requires fits { (read_groups 9 (drop at bytes.now)).0 < 2 ^ 64 }
+    ensures number { result.number ≡ (read_groups 9 (drop at bytes.now)).0 }
+    ensures next { drop result.next bytes.now ≡ (read_groups 9 (drop at bytes.now)).1 }
+{
+    let group = bytes[at];
+    if group < 128 {
+        return Grouped {
+            number: u64::from(group),
+            next: at + 1,
+        };
+    }
+    let high = groups_at(bytes, at + 1, 8);
+    Grouped {
+        number: u64::from(group - 128) + 128 * high.number,
+        next: high.next,
+    }
 }
 
 // The number in groups of 7 bits at a place. At most `more` groups follow the first.

@@ -12,13 +12,13 @@ first_at-requires c =
     let left = subst (λ (room : ℕ). drop c.args.self.at c.args.bytes.now ≡ packed_after c.args.self.last room (x ∷ xs)) c.if-self-eq0.true c.requires.2.left in
     omega (arith, head_within c.args.bytes.now c.args.self.at c.args.self.last x xs left)
 
-pub groups_at-read-requires-clause-within : goal.groups_at-read-requires-clause-within
-groups_at-read-requires-clause-within c =
+pub number_at-read-requires-clause-within : goal.number_at-read-requires-clause-within
+number_at-read-requires-clause-within c =
     let some : 0 < c.args.self.room = omega (arith, c.if-self-eq0.false) in
     on_has c.args.bytes.now c.args.self.at c.args.self.last c.args.self.room c.requires.0 c.requires.1 some c.requires.2.left
 
-pub groups_at-read-requires-clause-fits : goal.groups_at-read-requires-clause-fits
-groups_at-read-requires-clause-fits c =
+pub number_at-read-requires-clause-fits : goal.number_at-read-requires-clause-fits
+number_at-read-requires-clause-fits c =
     let some : 0 < c.args.self.room = omega (arith, c.if-self-eq0.false) in
     let number = on_number c.args.bytes.now c.args.self.at c.args.self.last c.args.self.room c.requires.0 c.requires.1 some c.requires.2.left in
     let fits : c.requires.0 < 2 ^ 64 = c.requires.2.fit.0 in
@@ -30,7 +30,7 @@ overflow_add-result-else-self-eq0 c =
     let number = on_number c.args.bytes.now c.args.self.at c.args.self.last c.args.self.room c.requires.0 c.requires.1 some c.requires.2.left in
     let up = follow_on c.args.self.last c.args.self.room c.requires.0 c.requires.1 some c.requires.2.follow in
     let fits : c.requires.0 < 2 ^ 64 = c.requires.2.fit.0 in
-    omega (arith, number, fits, up, c.groups_at-read.ensures.number)
+    omega (arith, number, fits, up, c.number_at-read.ensures.number)
 
 pub returns-then-self-eq0 : goal.returns-then-self-eq0
 returns-then-self-eq0 c = λ x xs stands.
@@ -50,11 +50,11 @@ returns-else-self-eq0 c = λ x xs stands.
     let some : 0 < c.args.self.room = omega (arith, c.if-self-eq0.false) in
     let number = on_number c.args.bytes.now c.args.self.at c.args.self.last c.args.self.room x xs some stands.left in
     let up = follow_on c.args.self.last c.args.self.room x xs some stands.follow in
-    let first : c.args.self.last + c.groups_at-read.result.number ≡ x = omega (arith, number, up, c.groups_at-read.ensures.number) in
+    let first : c.args.self.last + c.number_at-read.result.number ≡ x = omega (arith, number, up, c.number_at-read.ensures.number) in
     let ascend = following c.args.self.last c.args.self.room (x ∷ xs) stands.follow in (
       first,
       record {
-        left = c.groups_at-read.ensures.next ∙ on_rest c.args.bytes.now c.args.self.at c.args.self.last c.args.self.room x xs some stands.left ∙ ap (λ (n : ℕ). packed_after n (c.args.self.room - 1) xs) (sym first);
+        left = c.number_at-read.ensures.next ∙ on_rest c.args.bytes.now c.args.self.at c.args.self.last c.args.self.room x xs some stands.left ∙ ap (λ (n : ℕ). packed_after n (c.args.self.room - 1) xs) (sym first);
         follow = subst (λ (n : ℕ). Follow n (c.args.self.room - 1) xs) (sym first) (follow (c.args.self.room - 1) x xs ascend);
         fit = stands.fit.1;
       },
