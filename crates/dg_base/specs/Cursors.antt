@@ -8,12 +8,12 @@ use Rattle.dg_base.specs.declared.reading.Cursor.{Cursor}
 use Rattle.dg_base.specs.Packed.{packed_after, packed}
 use Rattle.dg_base.specs.Starts.{starts_after, starts_of}
 
--- the numbers ascend, from the last one on where it stands in their block
+-- the numbers ascend, and where they go on in a block they ascend from the last one on
 abbrev pub Follow : ℕ → ℕ → List ℕ → Type 0
 Follow last zero xs = Ascends nat_cmp xs
 Follow last (suc room) xs = Ascends nat_cmp (last ∷ xs)
 
--- what is written of these numbers, where so many are left
+-- of the whole these numbers are still to be written
 pub record IsPackedBut (packing : Packing) (whole later : List ℕ) : Type 0 where
   pub bytes : packing.bytes.items ++ packed_after packing.last packing.room later ≡ packed whole
   pub starts : packing.starts.items ++ starts_after (length packing.bytes.items) packing.last packing.room later ≡ starts_of whole

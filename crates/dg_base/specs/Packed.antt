@@ -4,14 +4,15 @@ use Rattle.std.specs.Int.{w64, to_be_bytes}
 use Rattle.dg_values.specs.declared.value.Posting.{Posting}
 use Rattle.dg_values.specs.declared.value.Posting.TheVariants.{Uid, Val}
 
--- a number in groups of 7 bits, the lowest first, each but the last with its high bit set; at most so many follow the first
+-- a number in groups of 7 bits, the lowest first, where each but the last has its high bit set
+-- at most so many groups follow the first
 unfoldable pub groups : ℕ → ℕ → List ℕ
 groups zero n = n ∷ []
 groups (suc more) n = cond (nat_lt n 128) (n ∷ []) ((128 + n % 128) ∷ groups more (n / 128))
 
--- the bytes of numbers that follow a last one, in whose block there is room for so many more
--- a block of 128 numbers, or of those that are left, begins with how many follow its first one, and with that in 8 bytes, the
--- highest first; each later number is its difference to the one before, which has at most ten groups
+-- the bytes of ascending numbers behind a last one, whose block has room for so many of them
+-- where there is none a block begins, of 128 numbers or of those that are left: a byte says how many follow its first number,
+-- which stands there in 8 bytes, the highest first; a later number is its difference to the one before, in at most ten groups
 abbrev pub packed_after : ℕ → ℕ → List ℕ → List ℕ
 packed_after last room [] = []
 packed_after last zero (x ∷ xs) = min 127 (length xs) ∷ (to_be_bytes w64 x ++ packed_after x 127 xs)

@@ -7,7 +7,7 @@ use Rattle.dg_base.specs.declared.packing.Start.{Start}
 use Rattle.dg_base.specs.Packed.{groups, packed}
 use Rattle.dg_base.specs.Unpacked.{unpacked}
 
--- the blocks that begin in the bytes of numbers which follow a last one, where these bytes stand at a place
+-- the blocks that begin in the bytes of numbers behind a last one, where these bytes stand at a place
 abbrev pub starts_after : ℕ → ℕ → ℕ → List ℕ → List Start
 starts_after at last room [] = []
 starts_after at last zero (x ∷ xs) = record { first = x; at = at } ∷ starts_after (at + 9) x 127 xs

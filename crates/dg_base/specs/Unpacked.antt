@@ -18,7 +18,7 @@ has_groups more [] = false
 has_groups zero (b ∷ bs) = true
 has_groups (suc more) (b ∷ bs) = cond (nat_lt b 128) true (has_groups more bs)
 
--- the numbers after a last one, in whose block so many more are left; no more than the first argument are read
+-- the numbers behind a last one, whose block has so many more; no more are read than the first argument says
 abbrev pub unpacked_after : ℕ → ℕ → ℕ → List ℕ → List ℕ
 unpacked_after zero last left bs = []
 unpacked_after (suc most) last zero [] = []
@@ -29,7 +29,7 @@ unpacked_after (suc most) last (suc left) bs =
     let d = read_groups 9 bs in
     (last + d.0) ∷ unpacked_after most (last + d.0) left d.1
 
--- numbers from their bytes, of which each takes at least one
+-- numbers from their bytes; each number takes at least one byte
 abbrev pub unpacked : List ℕ → List ℕ
 unpacked bs = unpacked_after (length bs) 0 0 bs
 

@@ -13,7 +13,7 @@ use std::marker::Model;
 
 /// Postings that never change, which contracts see as a strictly ascending list.
 ///
-/// Nodes are packed, and values stand behind them as they are.
+/// Nodes are packed in blocks of 128, and values stand behind them as they are.
 #[derive(Debug, Drop)]
 pub struct Base {
     nodes: Nodes,
@@ -60,7 +60,7 @@ impl Base {
         self.nodes.packed()
     }
 
-    /// Whether a posting is there. It looks by halves, and takes no memory.
+    /// Whether a posting is there. It looks by halves, for a node then along one block, and takes no memory.
     pub fn find(&self, item: &Posting) -> bool
         ensures { result ≡ has posting_cmp self.now item.now }
     {
@@ -70,7 +70,7 @@ impl Base {
         }
     }
 
-    /// How many postings are below this one. It looks by halves, and takes no memory.
+    /// How many postings are below this one. It looks by halves, for a node then along one block, and takes no memory.
     pub fn seek(&self, item: &Posting) -> usize
         ensures below { result ≡ count_below self.now item.now }
         ensures within { result ≤ length self.now }

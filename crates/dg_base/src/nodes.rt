@@ -148,7 +148,7 @@ fn push_numbers(items: &mut Vec<Posting>, bytes: &[u8], start: Cursor, most: usi
     ensures { OnOk result ((xs : List ℕ) → most ≤ length xs → StandsBefore bytes.now start xs → items.new.items ≡ items.old.items ++ map (λ n. Uid n) (take most xs)) }
 {
     let mut cursor = start;
-    for read in 0..most {
+    for _read in 0..most {
         cursor = cursor.next(bytes);
         items.push(Posting::Uid(cursor.last))?;
     }

@@ -69,7 +69,7 @@ impl Cursor {
         ensures { (xs : List ℕ) → most ≤ length xs → StandsBefore bytes.now self xs → StandsBefore bytes.now result (drop most xs) }
     {
         let mut cursor = self;
-        for read in 0..most {
+        for _read in 0..most {
             cursor = cursor.next(bytes);
         }
         cursor

@@ -5,6 +5,6 @@ use Rattle.dg_base.proofs.nodes.push_numbers.Given as goal
 
 abbrev pub invariant-loop-read : goal.invariant-loop-read
 invariant-loop-read l = record {
-  stands : (xs : List ℕ) → l.most ≤ length xs → StandsBefore l.bytes l.fn.start xs → StandsBefore l.bytes l.cursor (drop l.read xs);
-  so_far : (xs : List ℕ) → l.most ≤ length xs → StandsBefore l.bytes l.fn.start xs → l.items.items ≡ l.initial.items.items ++ map (λ n. Uid n) (take l.read xs);
+  stands : (xs : List ℕ) → l.most ≤ length xs → StandsBefore l.bytes l.fn.start xs → StandsBefore l.bytes l.cursor (drop l._read xs);
+  so_far : (xs : List ℕ) → l.most ≤ length xs → StandsBefore l.bytes l.fn.start xs → l.items.items ≡ l.initial.items.items ++ map (λ n. Uid n) (take l._read xs);
 }

@@ -1,4 +1,4 @@
-use Rattle.std.proofs.Common.{◌≡◌, ◌<◌, ◌+◌, ◌-◌, ◌*◌, ◌∙◌, ℕ, List, length, drop, sym, ap, arith}
+use Rattle.std.proofs.Common.{◌<◌, ◌∙◌, ℕ, List, length, sym, ap, arith}
 use Rattle.dg_base.proofs.Groups.{has_at, has-at_on, read-at_low, read-at_on}
 use Rattle.dg_base.proofs.reading.number_at.Goals as goal
 
