@@ -1,15 +1,18 @@
-use Rattle.std.proofs.Common.{rules}
-use Rattle.std.specs.Ordering.{is_lt}
-use Rattle.std.proofs.lemmas.List.Sorted.{IsPartitionPoint-from_clause}
-use Rattle.dg_values.specs.Order.{posting_cmp}
-use Rattle.dg_values.proofs.OrderLaws.{posting_order}
-use Rattle.dg_sets.proofs.Places.{parted}
-use Rattle.dg_base.proofs.Counts.{count_from_point}
+use Rattle.std.proofs.Common.{◌≡◌, ◌+◌, ◌∙◌, List, length, ap, sym, arith}
+use Rattle.dg_values.specs.declared.value.Posting.{Posting}
+use Rattle.dg_values.specs.declared.value.Posting.TheVariants.{Val}
+use Rattle.dg_base.specs.Places.{count_below}
+use Rattle.dg_base.proofs.Postings.{ascends_behind, count-uid, count-val}
 use Rattle.dg_base.proofs.base.Base.seek.Goals as goal
 
-pub returns-clause-below : goal.returns-clause-below
-returns-clause-below c =
-    let item = c.args.item.now in
-    let in_parts = parted posting_cmp posting_order item c.self.inside.items.items c.self.invariant in
-    let point = IsPartitionPoint-from_clause (λ y. is_lt (posting_cmp y item)) _ _ c.partition_point.ensures.partitioned (rw c.deref.ensures.value in_parts) (λ a r q k. search rules) in
-    rw (← c.self.view_is, ← c.deref.ensures.value) (count_from_point (λ y. is_lt (posting_cmp y item)) c.deref.result.now c.partition_point.result c.partition_point.ensures.bound point)
+pub values_below-requires : goal.values_below-requires
+values_below-requires c = rw c.as_slice.ensures.value (ascends_behind c.self.inside.nodes c.self.inside.values.items c.self.invariant.ascend)
+
+pub returns-in-Uid-clause-below : goal.returns-in-Uid-clause-below
+returns-in-Uid-clause-below c = rw (← c.self.view_is, c.in-Uid.is) (c.place.ensures.below ∙ sym (count-uid c.self.inside.nodes c.self.inside.values.items c.in-Uid.number c.self.invariant.none))
+
+pub returns-in-Val-clause-below : goal.returns-in-Val-clause-below
+returns-in-Val-clause-below c =
+    let below = c.values_below.ensures.below ∙ ap (λ (ps : List Posting). count_below ps c.args.item.now) c.as_slice.ensures.value ∙ ap (λ (p : Posting). count_below c.self.inside.values.items p) c.in-Val.is in
+    let both : c.len.result + c.values_below.result ≡ length c.self.inside.nodes + count_below c.self.inside.values.items (Val c.in-Val.field-0) = omega (arith, below, c.len.ensures) in
+    rw (← c.self.view_is, c.in-Val.is) (both ∙ sym (count-val c.self.inside.nodes c.self.inside.values.items c.in-Val.field-0))
