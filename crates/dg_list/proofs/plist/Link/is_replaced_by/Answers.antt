@@ -36,8 +36,9 @@ returns-then-alone-clause-sound c on =
     let l = arc_value c.in-Over.layer in
     let is = ap list_of (sym c.in-Over.is) in
     let sound = c.loop-depth.invariant.top.sound in
-    let alone = subst IsTrueOfLink c.in-Over.is c.loop-depth.invariant.top.alone (either_true c.in-Over.alone c.stand_on_puts-on_puts.result c.then-alone.either on) in
-    let puts : stand_on_puts ops l.ops ≡ true = ap (stand_on_puts ops) (sym (c.ops.ensures.ops ∙ ap (λ x. x.ops) c.deref-in-Over.ensures)) ∙ sym c.stand_on_puts-on_puts.ensures ∙ on in
+    let told : c.stand_on_puts-on_puts.result ≡ true = cc in
+    let alone = subst IsTrueOfLink c.in-Over.is c.loop-depth.invariant.top.alone (either_true c.in-Over.alone c.stand_on_puts-on_puts.result c.then-alone.either told) in
+    let puts : stand_on_puts ops l.ops ≡ true = ap (stand_on_puts ops) (sym (c.ops.ensures.ops ∙ ap (λ x. x.ops) c.deref-in-Over.ensures)) ∙ sym c.stand_on_puts-on_puts.ensures ∙ told in
     let upto = c.loop-depth.invariant.upto in
     covered_replace ops top c.requires.top.sound (c.loop-depth.invariant.covered (λ ts h. covered_alone v w l is sound ts ops (top_upto v w l is sound ts ts (omega arith)) puts alone))
 
