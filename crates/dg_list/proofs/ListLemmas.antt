@@ -1,6 +1,6 @@
 -- Readings of posting lists.
 use Rattle.std.proofs.Common.{◌≡◌, ◌∙◌, sym, ap, subst, refl, arith, ℕ, ◌<◌, ◌≤◌, List, [], ◌∷◌, ◌++◌, Bool, true, false, cond, inl, inr, length, take, drop, map}
-use Rattle.std.specs.Prelude.{Option, Result, Ok, Err, IfOk, unwrap_or, nat_le, nat_lt, filter, ◌⊎◌}
+use Rattle.std.specs.Prelude.{Option, Result, Ok, Err, IfOk, unwrap_or, nat_le, nat_lt, filter, ◌⊎◌, ◌&&◌}
 use Rattle.std.proofs.lemmas.Bool.Decides.{nat_tests}
 use Rattle.std.proofs.lemmas.List.{take_all}
 use Rattle.dg_values.specs.Ascending.{Ascends, has}
@@ -9,15 +9,17 @@ use Rattle.dg_values.specs.declared.value.Posting.{Posting}
 use Rattle.dg_delta.specs.Ops.{after_ops}
 use Rattle.dg_values.proofs.OrderLaws.{posting_order}
 use Rattle.dg_sets.proofs.Sets.{one_list}
-use Rattle.dg_delta.specs.Effects.{Says}
+use Rattle.dg_delta.specs.Effects.{Says, put_by_all}
 use Rattle.dg_delta.specs.Ops.{op_cmp}
 use Rattle.dg_delta.proofs.OpLaws.{ascends_after, has_after}
+use Rattle.dg_delta.proofs.Passes.{after_none}
 use Rattle.dg_delta.specs.Layers.{Changes}
 use Rattle.dg_delta.specs.declared.op.Op.{Op}
 use Rattle.dg_list.specs.Lists.{ops_upto, Layered, after_layers, reading, newest_of, newest_ts, IsStacked, IsSound, with_layer}
 use Rattle.dg_list.specs.Gathered.{there_by, stand_on_puts, stand_on_all}
 use Rattle.dg_list.specs.Links.{Replace}
-use Rattle.dg_list.proofs.OpLemmas.{said_in_turn, said_joined, IsCovered, nothing_covered, covered_replaced, puts_covered, all_covered}
+use Rattle.dg_list.proofs.OpLemmas.{said_in_turn, said_joined, IsCovered, nothing_covered, covered_replaced, puts_covered, all_covered, covered_if_nothing_left, puts_from_covered}
+use Rattle.dg_list.proofs.Counted.{base_told}
 
 le_true : (m n : ℕ) → m ≤ n → nat_le m n ≡ true
 le_true m n h = grind (arith, nat_tests)
@@ -139,6 +141,12 @@ module _ (v w : Layered) (l : Changes) (is : with_layer w l ≡ v) (sound : IsSo
   pub covered_alone : (ops : List Op) → l.ts ≤ ts → stand_on_puts ops l.ops ≡ true → Replace l.ops w → IsCovered ops (reading v ts)
   covered_alone ops h p r = subst (IsCovered ops) (sym (alone_read h r)) (puts_covered ops l.ops [] p (nothing_covered ops))
 
+  -- and where they leave nothing of it, they stand on all that it puts in where it stands alone
+  pub alone_exact : (ops : List Op) → newest_ts v ≤ ts → Ascends op_cmp l.ops → Replace l.ops w → Replace ops v → stand_on_puts ops l.ops ≡ true
+  alone_exact ops h a r replaced =
+      let whole : reading v ts ≡ put_by_all l.ops = alone_read (subst (λ (x : Layered). newest_ts x ≤ ts) (sym is) h) r ∙ after_none l.ops a in
+      puts_from_covered ops l.ops (subst (IsCovered ops) whole (covered_if_nothing_left ops (reading v ts) (replaced ts h)))
+
   -- what is below it
   pub sound_below : IsSound w
   sound_below = let whole : IsSound (with_layer w l) = subst IsSound (sym is) sound in record { base = whole.base; layers = whole.layers.1 }
@@ -161,6 +169,13 @@ read_gathered list ts items sound a f = one_list posting_cmp posting_order items
 
 pub base_covered : (ops : List Op) (list : Layered) (base : List Posting) (ts : ℕ) (from : ℕ) → record { base_ts = ts; base = base; layers = [] } ≡ list → stand_on_all ops base ≡ true → IsCoveredFrom ops from list
 base_covered ops list base ts from is all at h = subst (λ (x : Layered). IsCovered ops (reading x at)) is (all_covered ops base all)
+
+-- operations that leave nothing of a base alone stand on all of it
+pub base_exact : (ops : List Op) (list : Layered) (base : List Posting) (ts : ℕ) → record { base_ts = ts; base = base; layers = [] } ≡ list → Ascends op_cmp ops → IsSound list → Replace ops list → (nat_le (length base) (length ops) && stand_on_all ops base) ≡ true
+base_exact ops list base ts is a sound replaced =
+    let r : Replace ops (record { base_ts = ts; base = base; layers = [] }) = subst (Replace ops) (sym is) replaced in
+    let whole : IsSound (record { base_ts = ts; base = base; layers = [] }) = subst IsSound (sym is) sound in
+    base_told ops base a whole.base (covered_if_nothing_left ops base (r ts (omega arith)))
 
 pub if_ok_both : {T E : Type 0} (r : Result T E) (P Q R : T → Type 0) → ((x : T) → P x → Q x → R x) → IfOk r P → IfOk r Q → IfOk r R
 if_ok_both (Ok x) P Q R f p q = f x p q

@@ -1,5 +1,5 @@
 -- What the top of a posting list says.
-use Rattle.std.specs.Prelude.{◌≡◌, ◌≤◌, ℕ, true, List, []}
+use Rattle.std.specs.Prelude.{◌≡◌, ◌≤◌, ℕ, Bool, true, List, []}
 use Rattle.std.specs.Arc.{arc_value}
 use Rattle.dg_delta.specs.Ops.{after_ops}
 use Rattle.dg_delta.specs.declared.op.Op.{Op}
@@ -11,6 +11,11 @@ use Rattle.dg_list.specs.declared.plist.Link.TheVariants.{Rolled, Over}
 abbrev pub list_of : Link → Layered
 list_of (Rolled ts base) = record { base_ts = ts; base = arc_value base; layers = [] }
 list_of (Over layer older alone) = with_layer (arc_value older) (arc_value layer)
+
+-- whether nothing below it counts: a base, or a layer that stands alone
+abbrev pub is_lowest : Link → Bool
+is_lowest (Rolled ts base) = true
+is_lowest (Over layer older alone) = alone
 
 -- operations after which nothing is left of what a list is from its newest timestamp on
 abbrev pub Replace : List Op → Layered → Type 0

@@ -6,7 +6,7 @@ ghost use Rattle.dg_values.specs.Ascending.{Ascends, has};
 ghost use Rattle.dg_values.specs.Order.{posting_cmp};
 ghost use Rattle.dg_delta.specs.Ops.{op_cmp};
 ghost use Rattle.dg_list.specs.Lists.{reading, newest_ts, IsSound, with_layer, with_base, ReadsAlike};
-ghost use Rattle.dg_list.specs.Links.{Replace};
+ghost use Rattle.dg_list.specs.Links.{list_of, is_lowest, IsTop, Replace};
 
 use crate::covering::{stand_on_base, stand_on_puts};
 use crate::deciding::decide_at;
@@ -55,6 +55,39 @@ impl Drop for Link {
                 },
             }
         }
+    }
+}
+
+impl Link {
+    // Whether newer operations leave nothing of the list that begins here. It goes down by at most as many layers as there
+    // are operations, and where it doesn't come to the lowest that counts, false says nothing.
+    fn is_replaced_by(&self, ops: &[Op]) -> bool
+        requires top { IsTop self.now }
+        requires ops { Ascends op_cmp ops.now }
+        ensures sound { result ≡ true → Replace ops.now (list_of self.now) }
+        ensures exact { is_lowest self.now ≡ true → Replace ops.now (list_of self.now) → result ≡ true }
+    {
+        let mut link = self;
+        let mut depth = 0;
+        while depth <= ops.len() {
+            match link {
+                Link::Rolled(_, base) => return stand_on_base(ops, base),
+                Link::Over {
+                    layer,
+                    older,
+                    alone,
+                } => {
+                    let on_puts = stand_on_puts(ops, layer.ops());
+                    if *alone || !on_puts {
+                        return on_puts;
+                    }
+                    let list: &PList = older;
+                    link = &list.top;
+                    depth += 1;
+                }
+            }
+        }
+        false
     }
 }
 
@@ -112,7 +145,7 @@ impl PList {
         requires { newest_ts self.now < (arc_value layer).ts }
         ensures { IfOk result (λ list. list ≡ with_layer self.now (arc_value layer)) }
     {
-        let alone = self.is_replaced_by(layer.ops());
+        let alone = self.top.is_replaced_by(layer.ops());
         let older = Arc::new(alloc, self.share()?)?;
         Ok(PList {
             top: Link::Over {
@@ -121,32 +154,6 @@ impl PList {
                 alone,
             },
         })
-    }
-
-    // Whether newer operations leave nothing of the list. It goes down by at most as many layers as there are operations,
-    // so false says nothing.
-    fn is_replaced_by(&self, ops: &[Op]) -> bool
-        requires { Ascends op_cmp ops.now }
-        ensures { result ≡ true → Replace ops.now self.now }
-    {
-        let mut list = self;
-        for _ in 0..=ops.len() {
-            match &list.top {
-                Link::Rolled(_, base) => return stand_on_base(ops, base),
-                Link::Over {
-                    layer,
-                    older,
-                    alone,
-                } => {
-                    let on_puts = stand_on_puts(ops, layer.ops());
-                    if *alone || !on_puts {
-                        return on_puts;
-                    }
-                    list = older;
-                }
-            }
-        }
-        false
     }
 
     // The list at a timestamp: the operations of the layers that count, from the newest down to one that stands alone or
