@@ -24,10 +24,3 @@ pub use laws::{changes_as_parts, commits_as_changes, mutations, offers};
 pub use offer::offer_of;
 pub use plain::{are_fitting, is_plain};
 pub use resolving::resolve;
-
-#[cfg(test)]
-mod expand_tests;
-#[cfg(test)]
-mod resolve_tests;
-#[cfg(test)]
-mod tests;

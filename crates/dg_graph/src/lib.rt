@@ -17,6 +17,3 @@ pub use laws::{graphs, lists_of_graphs};
 pub use plain::Plain;
 pub use snapshot::Snapshot;
 pub use subject::{change_objects, is_of_subject, is_single, put_sole};
-
-#[cfg(test)]
-mod tests;

@@ -30,8 +30,3 @@ pub use past::Slip;
 pub use seen::Seen;
 pub use tablets::Phase;
 pub use zero::{Begun, ZeroState};
-
-#[cfg(test)]
-mod lease_tests;
-#[cfg(test)]
-mod tests;

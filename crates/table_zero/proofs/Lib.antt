@@ -1,0 +1,3 @@
+-- Lemmas on what is known between rows.
+mod Knowing
+mod Alters

@@ -1,0 +1,2 @@
+-- What is known of oracles and of the state that coordinates all between rows.
+pub mod Kept

@@ -1,0 +1,126 @@
+// Calls that read lists, each time with a new count of reads.
+ghost use Rattle.std.specs.Prelude.{◌≡◌, ◌≢◌, ◌+◌, ◌<◌, ◌^◌, [], IfOk, length};
+ghost use Rattle.dg_edges.specs.Deltas.{IsPlain, AreFitting};
+ghost use Rattle.dg_edges.specs.Expanding.{new_names};
+ghost use Rattle.dg_graph.specs.Graphs.{IsLawful};
+ghost use Rattle.dg_zero.specs.Offers.{IsSound};
+
+use dg_edges::{Resolved, conflict_keys, deltas_of, expand, offer_of};
+use dg_graph::{Change, Plain, Snapshot};
+use dg_keys::{ConflictKey, Part};
+use dg_values::{Mem, Posting, Steps, Str};
+use dg_zero::Offer;
+use std::alloc::Global;
+use std::marker::Brand;
+use std::sync::ledger::{Blank, Ledger};
+
+// The objects of a subject.
+pub(crate) fn objects<S: Snapshot>(alloc: Global, snap: &S, p: &Str, s: u64) -> Mem<Vec<Posting>> {
+    objects_in::<S, Brand>(alloc, snap, p, s, Blank::new(1))
+}
+
+fn objects_in<S: Snapshot, L: Ledger>(
+    alloc: Global,
+    snap: &S,
+    p: &Str,
+    s: u64,
+    blank: Blank,
+) -> Mem<Vec<Posting>>
+    requires name { blank.name ≡ L.name }
+    requires parts { blank.parts ≡ L.parts }
+    requires some { 0 < blank.parts }
+{
+    let mut reads = Steps::<L>::new(blank);
+    snap.objects(alloc, p.as_str(), s, &mut reads)
+}
+
+// The offer of changes.
+pub(crate) fn offer<S: Snapshot>(
+    alloc: Global,
+    snap: &S,
+    start: u64,
+    changes: &[Change],
+) -> Mem<Offer>
+    requires plain { IsPlain (S.declared snap.now) }
+    requires fitting { AreFitting (S.declared snap.now) changes.now }
+    requires lawful { IsLawful (S.declared snap.now) (S.graph snap.now) }
+    ensures start { IfOk result (λ offer. offer.start ≡ start) }
+    ensures sound { changes.now ≢ [] → IfOk result (λ offer. IsSound (S.declared snap.now) (S.graph snap.now) offer.preds offer.keys offer.parts) }
+{
+    offer_in::<S, Brand>(alloc, snap, start, changes, Blank::new(1))
+}
+
+fn offer_in<S: Snapshot, L: Ledger>(
+    alloc: Global,
+    snap: &S,
+    start: u64,
+    changes: &[Change],
+    blank: Blank,
+) -> Mem<Offer>
+    requires name { blank.name ≡ L.name }
+    requires parts { blank.parts ≡ L.parts }
+    requires some { 0 < blank.parts }
+    requires plain { IsPlain (S.declared snap.now) }
+    requires fitting { AreFitting (S.declared snap.now) changes.now }
+    requires lawful { IsLawful (S.declared snap.now) (S.graph snap.now) }
+    ensures start { IfOk result (λ offer. offer.start ≡ start) }
+    ensures sound { changes.now ≢ [] → IfOk result (λ offer. IsSound (S.declared snap.now) (S.graph snap.now) offer.preds offer.keys offer.parts) }
+{
+    let mut reads = Steps::<L>::new(blank);
+    offer_of(alloc, snap, start, changes, &mut reads)
+}
+
+// The parts and the keys of changes.
+pub(crate) fn parts_and_keys(
+    alloc: Global,
+    at: &Plain,
+    changes: &[Change],
+) -> Mem<(Vec<Part>, Vec<ConflictKey>)>
+    requires plain { IsPlain at.now.schema }
+    requires fitting { AreFitting at.now.schema changes.now }
+    requires lawful { IsLawful at.now.schema at.now.graph }
+{
+    parts_and_keys_in::<Brand>(alloc, at, changes, Blank::new(1))
+}
+
+fn parts_and_keys_in<L: Ledger>(
+    alloc: Global,
+    at: &Plain,
+    changes: &[Change],
+    blank: Blank,
+) -> Mem<(Vec<Part>, Vec<ConflictKey>)>
+    requires name { blank.name ≡ L.name }
+    requires parts { blank.parts ≡ L.parts }
+    requires some { 0 < blank.parts }
+    requires plain { IsPlain at.now.schema }
+    requires fitting { AreFitting at.now.schema changes.now }
+    requires lawful { IsLawful at.now.schema at.now.graph }
+{
+    let mut reads = Steps::<L>::new(blank);
+    let parts = deltas_of(alloc, at, changes, &mut reads)?;
+    let keys = conflict_keys(alloc, at, changes, &mut reads)?;
+    Ok((parts, keys))
+}
+
+// The changes that checked statements stand for.
+pub(crate) fn expanded(alloc: Global, at: &Plain, r: &Resolved, first: u64) -> Mem<Vec<Change>>
+    requires room { first + length (new_names r.now) < 2 ^ 64 }
+{
+    expanded_in::<Brand>(alloc, at, r, first, Blank::new(1))
+}
+
+fn expanded_in<L: Ledger>(
+    alloc: Global,
+    at: &Plain,
+    r: &Resolved,
+    first: u64,
+    blank: Blank,
+) -> Mem<Vec<Change>>
+    requires name { blank.name ≡ L.name }
+    requires parts { blank.parts ≡ L.parts }
+    requires some { 0 < blank.parts }
+    requires room { first + length (new_names r.now) < 2 ^ 64 }
+{
+    let mut reads = Steps::<L>::new(blank);
+    expand(alloc, at, r, first, &mut reads)
+}
