@@ -144,11 +144,11 @@ name_more [] d p lt = absurd (omega arith)
 name_more (x ∷ schema) d zero lt = refl
 name_more (x ∷ schema) d (suc p) lt = name_more schema d p (omega arith)
 
-name_last : (schema : List PredDef) (d : PredDef) → name_at (schema ++ d ∷ []) (length schema) ≡ d.name
+pub name_last : (schema : List PredDef) (d : PredDef) → name_at (schema ++ d ∷ []) (length schema) ≡ d.name
 name_last [] d = refl
 name_last (x ∷ schema) d = name_last schema d
 
-names_more : (schema : List PredDef) (d : PredDef) (places : List ℕ) → AllByRecursion (λ p. p < length schema) places → names_at (schema ++ d ∷ []) places ≡ names_at schema places
+pub names_more : (schema : List PredDef) (d : PredDef) (places : List ℕ) → AllByRecursion (λ p. p < length schema) places → names_at (schema ++ d ∷ []) places ≡ names_at schema places
 names_more schema d [] a = refl
 names_more schema d (p ∷ places) a = λ i. name_more schema d p a.0 i ∷ names_more schema d places a.1 i
 
@@ -170,12 +170,14 @@ names_with : (schema : List PredDef) (places : List ℕ) (d : PredDef) (k : ℕ)
 names_with schema places d k x b =
     map_inserted (name_at (schema ++ d ∷ [])) places k (length schema) ∙ (λ i. insert (names_more schema d places x.within i) k (name_last schema d i)) ∙ sym b.put
 
-pub indexed_with : (schema : List PredDef) (places : List ℕ) (d : PredDef) (k : ℕ) → IsIndexed schema places → is_declared schema d.name ≡ false → BelongsAt text_cmp (names_at schema places) d.name k → IsIndexed (schema ++ d ∷ []) (insert places k (length schema))
-indexed_with schema places d k x missing b = record {
+-- places with the one more, in whatever way it was put in
+pub indexed_by : (schema : List PredDef) (places more : List ℕ) (d : PredDef) → IsIndexed schema places → is_declared schema d.name ≡ false → names_at (schema ++ d ∷ []) more ≡ with_one text_cmp (names_at schema places) d.name
+    → AllByRecursion (λ p. p < length (schema ++ d ∷ [])) more → IsIndexed (schema ++ d ∷ []) more
+indexed_by schema places more d x missing put within = record {
   distinct = distinct_pushed schema d x.distinct missing;
-  within = all_inserted (λ p. p < length (schema ++ d ∷ [])) places k (length schema) (all_further (length schema) (length (schema ++ d ∷ [])) places (rw length-append (omega arith)) x.within) (rw length-append (omega arith));
-  ascend = subst (λ (names : List (List ℕ)). Ascends text_cmp names) (sym (names_with schema places d k x b)) (ascends_with text_cmp text_order (names_at schema places) d.name x.ascend);
-  whole = λ name. ap (λ (names : List (List ℕ)). has text_cmp names name) (names_with schema places d k x b) ∙ has_with text_cmp text_order (names_at schema places) d.name name ∙ both name;
+  within = within;
+  ascend = subst (λ (names : List (List ℕ)). Ascends text_cmp names) (sym put) (ascends_with text_cmp text_order (names_at schema places) d.name x.ascend);
+  whole = λ name. ap (λ (names : List (List ℕ)). has text_cmp names name) put ∙ has_with text_cmp text_order (names_at schema places) d.name name ∙ both name;
 }
   where
     either : (o : Option PredDef) (b : Bool) → (b || is_some o) ≡ is_some (option_or o (cond b (Some d) None))
@@ -187,6 +189,11 @@ indexed_with schema places d k x missing b = record {
     both : (name : List ℕ) → (same_text d.name name || has text_cmp (names_at schema places) name) ≡ is_declared (schema ++ d ∷ []) name
     both name =
         ap (λ (b : Bool). same_text d.name name || b) (x.whole name) ∙ either (definition_of schema name) (same_text d.name name) ∙ sym (ap is_some (definition_of-append schema (d ∷ []) name))
+
+pub indexed_with : (schema : List PredDef) (places : List ℕ) (d : PredDef) (k : ℕ) → IsIndexed schema places → is_declared schema d.name ≡ false → BelongsAt text_cmp (names_at schema places) d.name k → IsIndexed (schema ++ d ∷ []) (insert places k (length schema))
+indexed_with schema places d k x missing b =
+    indexed_by schema places (insert places k (length schema)) d x missing (names_with schema places d k x b)
+    (all_inserted (λ p. p < length (schema ++ d ∷ [])) places k (length schema) (all_further (length schema) (length (schema ++ d ∷ [])) places (rw length-append (omega arith)) x.within) (rw length-append (omega arith)))
 
 -- ---- definitions changed in their places, which keep their names
 

@@ -2,6 +2,7 @@
 ghost use Rattle.std.specs.Prelude.{◌≡◌, false, fold, [], ◌∷◌, ◌++◌, IfOk, OnOk, option_copied, string_bytes};
 ghost use Rattle.dg_schema.specs.Definitions.{definition_of, is_declared, with_definitions, AreDistinct};
 ghost use Rattle.dg_schema.specs.Joined.{newest, renewed, with_missing};
+ghost use Rattle.dg_schema.specs.Places.{IsIndexed};
 ghost use Rattle.dg_schema.specs.Texts.{schema_text};
 
 use crate::{PredDef, places, printing};
@@ -68,6 +69,18 @@ impl Schema {
             alloc,
             definitions: Vec::new(alloc),
             by_name: Vec::new(alloc),
+        }
+    }
+
+    // Definitions with their places in order.
+    pub(crate) fn of_parts(alloc: Global, definitions: Vec<PredDef>, by_name: Vec<usize>) -> Schema
+        requires { IsIndexed definitions.items by_name.items }
+        ensures { result ≡ definitions.items }
+    {
+        Schema {
+            alloc,
+            definitions,
+            by_name,
         }
     }
 
