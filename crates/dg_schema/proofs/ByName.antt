@@ -119,24 +119,6 @@ none_nowhere schema places k p x e none = past schema p (all_at (λ p. p < lengt
     past (d ∷ schema) zero lt e = cc
     past (d ∷ schema) (suc p) lt e = past schema p (omega arith) e
 
--- a name that isn't declared belongs at the place where those at or above it begin
-pub place_of_missing : (schema : List PredDef) (places : List ℕ) (name : List ℕ) (k : ℕ) → IsIndexed schema places → is_declared schema name ≡ false → k ≤ length places → AllWithin (λ p. is_lt (text_cmp (name_at schema p) name) ≡ true) places 0 k → AllWithin (λ p. is_lt (text_cmp (name_at schema p) name) ≡ false) places k (length places) → BelongsAt text_cmp (names_at schema places) name k
-place_of_missing schema places name k x missing le before behind =
-    missing_at schema places name k x le before behind (λ lt. rw (← get_or-map (name_at schema) places k 0 [] lt) (other (names_at schema places) k (rw length-map lt) (x.whole name ∙ missing)))
-  where
-    other : (names : List (List ℕ)) (k : ℕ) → k < length names → has text_cmp names name ≡ false → same_text (get_or names k []) name ≡ false
-    other [] k lt h = absurd (omega arith)
-    other (n ∷ names) zero lt h = first (same_text n name) (has text_cmp names name) h
-      where
-        first : (a b : Bool) → (a || b) ≡ false → a ≡ false
-        first true b e = e
-        first false b e = refl
-    other (n ∷ names) (suc k) lt h = other names k (omega arith) (second (same_text n name) (has text_cmp names name) h)
-      where
-        second : (a b : Bool) → (a || b) ≡ false → b ≡ false
-        second true b e = absurd (cc)
-        second false b e = e
-
 -- ---- one definition more
 
 name_more : (schema : List PredDef) (d : PredDef) (p : ℕ) → p < length schema → name_at (schema ++ d ∷ []) p ≡ name_at schema p
@@ -144,38 +126,22 @@ name_more [] d p lt = absurd (omega arith)
 name_more (x ∷ schema) d zero lt = refl
 name_more (x ∷ schema) d (suc p) lt = name_more schema d p (omega arith)
 
-name_last : (schema : List PredDef) (d : PredDef) → name_at (schema ++ d ∷ []) (length schema) ≡ d.name
+pub name_last : (schema : List PredDef) (d : PredDef) → name_at (schema ++ d ∷ []) (length schema) ≡ d.name
 name_last [] d = refl
 name_last (x ∷ schema) d = name_last schema d
 
-names_more : (schema : List PredDef) (d : PredDef) (places : List ℕ) → AllByRecursion (λ p. p < length schema) places → names_at (schema ++ d ∷ []) places ≡ names_at schema places
+pub names_more : (schema : List PredDef) (d : PredDef) (places : List ℕ) → AllByRecursion (λ p. p < length schema) places → names_at (schema ++ d ∷ []) places ≡ names_at schema places
 names_more schema d [] a = refl
 names_more schema d (p ∷ places) a = λ i. name_more schema d p a.0 i ∷ names_more schema d places a.1 i
 
-map_inserted : {X Y : Type 0} (f : X → Y) (xs : List X) (k : ℕ) (x : X) → map f (insert xs k x) ≡ insert (map f xs) k (f x)
-map_inserted f xs zero x = refl
-map_inserted f [] (suc k) x = refl
-map_inserted f (y ∷ ys) (suc k) x = λ i. f y ∷ map_inserted f ys k x i
-
-all_inserted : {X : Type 0} (P : X → Type 0) (xs : List X) (k : ℕ) (x : X) → AllByRecursion P xs → P x → AllByRecursion P (insert xs k x)
-all_inserted P xs zero x a p = (p, a)
-all_inserted P [] (suc k) x a p = (p, tt)
-all_inserted P (y ∷ ys) (suc k) x a p = (a.0, all_inserted P ys k x a.1 p)
-
-all_further : (n m : ℕ) (places : List ℕ) → n ≤ m → AllByRecursion (λ p. p < n) places → AllByRecursion (λ p. p < m) places
-all_further n m [] le a = tt
-all_further n m (p ∷ places) le a = let lt : p < n = a.0 in (omega arith, all_further n m places le a.1)
-
-names_with : (schema : List PredDef) (places : List ℕ) (d : PredDef) (k : ℕ) → IsIndexed schema places → BelongsAt text_cmp (names_at schema places) d.name k → names_at (schema ++ d ∷ []) (insert places k (length schema)) ≡ with_one text_cmp (names_at schema places) d.name
-names_with schema places d k x b =
-    map_inserted (name_at (schema ++ d ∷ [])) places k (length schema) ∙ (λ i. insert (names_more schema d places x.within i) k (name_last schema d i)) ∙ sym b.put
-
-pub indexed_with : (schema : List PredDef) (places : List ℕ) (d : PredDef) (k : ℕ) → IsIndexed schema places → is_declared schema d.name ≡ false → BelongsAt text_cmp (names_at schema places) d.name k → IsIndexed (schema ++ d ∷ []) (insert places k (length schema))
-indexed_with schema places d k x missing b = record {
+-- places with the one more, in whatever way it was put in
+pub indexed_by : (schema : List PredDef) (places more : List ℕ) (d : PredDef) → IsIndexed schema places → is_declared schema d.name ≡ false → names_at (schema ++ d ∷ []) more ≡ with_one text_cmp (names_at schema places) d.name
+    → AllByRecursion (λ p. p < length (schema ++ d ∷ [])) more → IsIndexed (schema ++ d ∷ []) more
+indexed_by schema places more d x missing put within = record {
   distinct = distinct_pushed schema d x.distinct missing;
-  within = all_inserted (λ p. p < length (schema ++ d ∷ [])) places k (length schema) (all_further (length schema) (length (schema ++ d ∷ [])) places (rw length-append (omega arith)) x.within) (rw length-append (omega arith));
-  ascend = subst (λ (names : List (List ℕ)). Ascends text_cmp names) (sym (names_with schema places d k x b)) (ascends_with text_cmp text_order (names_at schema places) d.name x.ascend);
-  whole = λ name. ap (λ (names : List (List ℕ)). has text_cmp names name) (names_with schema places d k x b) ∙ has_with text_cmp text_order (names_at schema places) d.name name ∙ both name;
+  within = within;
+  ascend = subst (λ (names : List (List ℕ)). Ascends text_cmp names) (sym put) (ascends_with text_cmp text_order (names_at schema places) d.name x.ascend);
+  whole = λ name. ap (λ (names : List (List ℕ)). has text_cmp names name) put ∙ has_with text_cmp text_order (names_at schema places) d.name name ∙ both name;
 }
   where
     either : (o : Option PredDef) (b : Bool) → (b || is_some o) ≡ is_some (option_or o (cond b (Some d) None))
@@ -187,24 +153,3 @@ indexed_with schema places d k x missing b = record {
     both : (name : List ℕ) → (same_text d.name name || has text_cmp (names_at schema places) name) ≡ is_declared (schema ++ d ∷ []) name
     both name =
         ap (λ (b : Bool). same_text d.name name || b) (x.whole name) ∙ either (definition_of schema name) (same_text d.name name) ∙ sym (ap is_some (definition_of-append schema (d ∷ []) name))
-
--- ---- definitions changed in their places, which keep their names
-
-name_kept : (f : PredDef → PredDef) → KeepsNames f → (schema : List PredDef) (p : ℕ) → name_at (map f schema) p ≡ name_at schema p
-name_kept f k schema p = ap (λ (o : Option PredDef). option_map_or (λ d. d.name) o []) (slice_get-map f schema p) ∙ same (slice_get schema p)
-  where
-    same : (o : Option PredDef) → option_map_or (λ d. d.name) (option_map f o) [] ≡ option_map_or (λ d. d.name) o []
-    same None = refl
-    same (Some d) = k d
-
-names_kept : (f : PredDef → PredDef) → KeepsNames f → (schema : List PredDef) (places : List ℕ) → names_at (map f schema) places ≡ names_at schema places
-names_kept f k schema [] = refl
-names_kept f k schema (p ∷ places) = λ i. name_kept f k schema p i ∷ names_kept f k schema places i
-
-pub indexed_kept : (f : PredDef → PredDef) → KeepsNames f → (schema : List PredDef) (places : List ℕ) → IsIndexed schema places → IsIndexed (map f schema) places
-indexed_kept f k schema places x = record {
-  distinct = distinct_kept f k schema x.distinct;
-  within = subst (λ (n : ℕ). AllByRecursion (λ p. p < n) places) (sym (length-map schema f)) x.within;
-  ascend = subst (λ (names : List (List ℕ)). Ascends text_cmp names) (sym (names_kept f k schema places)) x.ascend;
-  whole = λ name. ap (λ (names : List (List ℕ)). has text_cmp names name) (names_kept f k schema places) ∙ x.whole name ∙ sym (declared_kept f k schema name);
-}

@@ -12,3 +12,4 @@ pub mod WholeNames
 pub mod Writable
 pub mod Listed
 pub mod WholeListed
+pub mod Drafts

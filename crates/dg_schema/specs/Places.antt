@@ -21,3 +21,8 @@ pub record IsIndexed (schema : List PredDef) (places : List ℕ) : Type 0 where
   pub within : AllByRecursion (λ place. place < length schema) places
   pub ascend : Ascends text_cmp (names_at schema places)
   pub whole : (name : List ℕ) → has text_cmp (names_at schema places) name ≡ is_declared schema name
+
+-- The places of definitions, each with its name, in ascending order of the names.
+pub record AreKept (schema : List PredDef) (places : List (List ℕ × ℕ)) : Type 0 where
+  pub indexed : IsIndexed schema (map (λ e. e.1) places)
+  pub named : names_at schema (map (λ e. e.1) places) ≡ map (λ e. e.0) places

@@ -5,9 +5,10 @@ ghost use Rattle.dg_text.specs.declared.reading.ReadError.TheVariants.{OutOfMemo
 ghost use Rattle.dg_schema.specs.Words.{fits_kind};
 ghost use Rattle.dg_schema.specs.Grammar.{same_tokenizer, is_in, distinct, is_indexable, is_allowed, index_of, define};
 
+use crate::PredDef;
+use crate::draft::Draft;
 use crate::statement::{Marks, Statement};
 use crate::words::{default_of, fits, is_uid_kind};
-use crate::{PredDef, Schema};
 use dg_text::ReadError;
 use dg_text::words::is_reserved;
 use dg_values::{Kind, List, Tokenizer};
@@ -69,13 +70,13 @@ fn may_be_indexed(kind: Kind, listed: &[Tokenizer]) -> bool
 }
 
 /// Whether the statement may follow these definitions.
-pub fn may_follow(earlier: &Schema, statement: &Statement) -> bool
+pub fn may_follow(earlier: &Draft, statement: &Statement) -> bool
     ensures { result ≡ is_allowed earlier.now statement.now }
 {
     let marks = &statement.marks;
     let kind = statement.shape.kind;
     !is_reserved(statement.name.as_str())
-        && earlier.lookup(statement.name.as_str()).is_none()
+        && !earlier.declares(&statement.name)
         && !marks.twice
         && (!marks.indexed || may_be_indexed(kind, marks.tokens.as_slice()))
         && (!marks.reverse || is_uid_kind(kind))

@@ -8,8 +8,8 @@ ghost use Rattle.dg_schema.specs.Definitions.{is_declared};
 ghost use Rattle.dg_text.specs.Marks.{open_round, comma};
 ghost use Rattle.dg_schema.specs.Grammar.{define, stated, statement, statements, begins_statement, unmarked, scalar, list_type, type_of, comma_tokenizer, tokenizers, index, directive};
 
-use crate::Schema;
 use crate::checks::{definition_of, may_follow};
+use crate::draft::Draft;
 use crate::statement::{Marks, Shape, Statement};
 use crate::words::{Directive, Words};
 use dg_text::choices::{next_is_at, next_is_punct};
@@ -265,7 +265,7 @@ fn stated_at(
 }
 
 // The definitions with that of a statement whose name isn't declared.
-fn declare(mut earlier: Schema, statement: Statement) -> Result<Schema, ReadError>
+fn declare(mut earlier: Draft, statement: Statement) -> Result<Draft, ReadError>
     requires missing { is_declared earlier statement.name ≡ false }
     ensures made { IfOk result (λ all. all ≡ earlier ++ define statement ∷ []) }
     ensures memory { IfErr result (λ e. e ≡ errors.OutOfMemory) }
@@ -281,11 +281,11 @@ fn declare(mut earlier: Schema, statement: Statement) -> Result<Schema, ReadErro
 #[tactic(auto, unfolding(crate::specs::Grammar::statement))]
 fn statement_at(
     alloc: Global,
-    earlier: Schema,
+    earlier: Draft,
     words: &Words,
     tokens: &[Piece],
     start: usize,
-) -> Result<(Schema, usize), ReadError>
+) -> Result<(Draft, usize), ReadError>
     ensures { Gives (λ all. all) (toks tokens.now) result (statement earlier (drop start (toks tokens.now))) }
 {
     let (next, at) = stated_at(alloc, words, tokens, start)?;
@@ -310,11 +310,11 @@ pub fn statements_at(
     words: &Words,
     tokens: &[Piece],
     start: usize,
-) -> Result<(Schema, usize), ReadError>
+) -> Result<(Draft, usize), ReadError>
     ensures { Gives (λ all. all) (toks tokens.now) result (statements (drop start (toks tokens.now))) }
 {
     let most = left(tokens, start);
-    let mut all = Schema::new(alloc);
+    let mut all = Draft::new(alloc);
     let mut at = start;
     for _ in 0..most {
         if !statement_begins(tokens, at) {

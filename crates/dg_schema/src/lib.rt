@@ -3,6 +3,7 @@
 
 mod checks;
 mod definition;
+mod draft;
 mod fault;
 mod grammar;
 mod laws;

@@ -4,6 +4,7 @@ ghost use Rattle.dg_text.specs.Tokens.{toks, AreCut};
 ghost use Rattle.dg_text.specs.Sizes.{AreSmall};
 ghost use Rattle.dg_schema.specs.Whole.{line_feeds, line_at, schema_of, from_front, schema, Reads};
 
+use crate::draft::Draft;
 use crate::grammar::statements_at;
 use crate::words::Words;
 use crate::{Schema, SchemaFault};
@@ -40,6 +41,16 @@ fn line_of(text: &str, offset: u32) -> u32
     1 + count_line_feeds(&bytes[..end])
 }
 
+// The schema of these definitions.
+fn made(all: Draft) -> Result<Schema, SchemaFault>
+    ensures { Reads result (Ok all) }
+{
+    match all.into_schema() {
+        Ok(schema) => Ok(schema),
+        Err(OutOfMemory) => Err(SchemaFault::OutOfMemory),
+    }
+}
+
 // The schema that tokens say, where they end at a place of the text.
 fn read_tokens(
     alloc: Global,
@@ -57,7 +68,7 @@ fn read_tokens(
         Ok((all, at)) => {
             let place = left(tokens, at);
             if place == 0 && end == text.len() {
-                Ok(all)
+                made(all)
             } else {
                 Err(SchemaFault::SchemaSyntax {
                     line: line_of(text, offset_at(tokens, end, place)),

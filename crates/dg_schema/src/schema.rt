@@ -1,9 +1,11 @@
 // Definitions with distinct names.
 ghost use Rattle.std.specs.Prelude.{◌≡◌, false, fold, [], ◌∷◌, ◌++◌, IfOk, OnOk, option_copied, string_bytes};
-ghost use Rattle.dg_schema.specs.Definitions.{definition_of, is_declared, with_definitions, AreDistinct};
-ghost use Rattle.dg_schema.specs.Joined.{newest, renewed, with_missing};
+ghost use Rattle.dg_schema.specs.Definitions.{definition_of, with_definitions, AreDistinct};
+ghost use Rattle.dg_schema.specs.Joined.{newest, renewed};
+ghost use Rattle.dg_schema.specs.Places.{IsIndexed};
 ghost use Rattle.dg_schema.specs.Texts.{schema_text};
 
+use crate::draft::Draft;
 use crate::{PredDef, places, printing};
 use dg_values::{Mem, OutOfMemory};
 use std::alloc::Global;
@@ -38,14 +40,15 @@ fn newest<'a>(newer: &'a Schema, older: &'a PredDef) -> &'a PredDef
 }
 
 // Copies of the older definitions, each with its newer namesake in its place.
-fn renewed(alloc: Global, newer: &Schema, older: &[PredDef]) -> Mem<Vec<PredDef>>
-    ensures { IfOk result (λ definitions. definitions.items ≡ renewed newer.now older.now) }
+fn renewed(alloc: Global, newer: &Schema, older: &[PredDef]) -> Mem<Draft>
+    requires { AreDistinct older.now }
+    ensures { IfOk result (λ draft. draft ≡ renewed newer.now older.now) }
 {
-    let mut definitions = Vec::with_capacity(alloc, older.len())?;
+    let mut draft = Draft::new(alloc);
     for definition in older {
-        definitions.push(newest(newer, definition).copy(alloc)?)?;
+        draft.add(newest(newer, definition).copy(alloc)?)?;
     }
-    Ok(definitions)
+    Ok(draft)
 }
 
 // Copies of definitions.
@@ -71,13 +74,25 @@ impl Schema {
         }
     }
 
+    // Definitions with their places in order.
+    pub(crate) fn of_parts(alloc: Global, definitions: Vec<PredDef>, by_name: Vec<usize>) -> Schema
+        requires { IsIndexed definitions.items by_name.items }
+        ensures { result ≡ definitions.items }
+    {
+        Schema {
+            alloc,
+            definitions,
+            by_name,
+        }
+    }
+
     /// This one definition, which is let go where there is no memory for it.
     pub fn single(alloc: Global, definition: PredDef) -> Mem<Schema>
         ensures { IfOk result (λ schema. schema ≡ definition ∷ []) }
     {
-        let mut schema = Schema::new(alloc);
-        schema.add(definition)?;
-        Ok(schema)
+        let mut draft = Draft::new(alloc);
+        draft.add(definition)?;
+        draft.into_schema()
     }
 
     /// The definitions, in the order in which they were declared.
@@ -112,9 +127,9 @@ impl Schema {
     pub fn with(&self, newer: &Schema) -> Mem<Schema>
         ensures { IfOk result (λ schema. schema ≡ with_definitions self.now newer.now) }
     {
-        let mut schema = self.renewed(newer)?;
-        schema.add_missing(newer.definitions())?;
-        Ok(schema)
+        let mut draft = renewed(self.alloc, newer, self.definitions())?;
+        draft.add_missing(newer.definitions())?;
+        draft.into_schema()
     }
 
     /// One line for each definition, in ascending order of the names, as the schema language has it.
@@ -127,46 +142,5 @@ impl Schema {
             self.by_name.as_slice(),
         )?;
         Ok(text.into_string())
-    }
-
-    // The definitions in their places, each with its newer namesake there.
-    fn renewed(&self, newer: &Schema) -> Mem<Schema>
-        ensures { IfOk result (λ schema. schema ≡ renewed newer.now self.now) }
-    {
-        let definitions = renewed(self.alloc, newer, self.definitions.as_slice())?;
-        let by_name = Vec::from_slice(self.alloc, self.by_name.as_slice())?;
-        Ok(Schema {
-            alloc: self.alloc,
-            definitions,
-            by_name,
-        })
-    }
-
-    // Adds those definitions whose names aren't declared.
-    fn add_missing(&mut self, definitions: &[PredDef]) -> Mem<()>
-        ensures ok { OnOk result (self.new ≡ fold with_missing self.old definitions.now) }
-    {
-        for definition in definitions {
-            if self.lookup(definition.name.as_str()).is_none() {
-                self.add(definition.copy(self.alloc)?)?;
-            }
-        }
-        Ok(())
-    }
-
-    // Adds a definition whose name isn't declared.
-    pub(crate) fn add(&mut self, definition: PredDef) -> Mem<()>
-        requires missing { is_declared self.old definition.name ≡ false }
-        ensures ok { OnOk result (self.new ≡ self.old ++ definition ∷ []) }
-    {
-        let place = places::below(
-            self.definitions.as_slice(),
-            self.by_name.as_slice(),
-            definition.name.as_str(),
-        );
-        self.definitions.reserve(1)?;
-        self.by_name.insert(place, self.definitions.len())?;
-        self.definitions.push_reserved(definition);
-        Ok(())
     }
 }
