@@ -1,12 +1,11 @@
 -- Places of definitions in ascending order of their names.
-use Rattle.std.proofs.Common.{◌≡◌, ℕ, zero, suc, ◌<◌, ◌≤◌, Bool, true, false, ◌||◌, cond, List, [], ◌∷◌, ◌++◌, Option, Some, None, length, get_or, refl, ap, subst, sym, ◌∙◌, arith, length-append}
-use Rattle.std.specs.Prelude.{map, slice_get, option_map, is_some}
+use Rattle.std.proofs.Common.{◌≡◌, ℕ, zero, suc, ◌<◌, ◌≤◌, Bool, true, false, ◌||◌, cond, List, [], ◌∷◌, ◌++◌, Option, Some, None, length, get_or, refl, ap, subst, sym, ◌∙◌, arith}
+use Rattle.std.specs.Prelude.{slice_get, is_some}
 use Rattle.std.specs.Option.{option_map_or, option_or}
-use Rattle.std.specs.List.{AllByRecursion, AllWithin, insert}
+use Rattle.std.specs.List.{AllByRecursion, AllWithin}
 use Rattle.std.specs.List.Sorted.{IsPartitionedBy, IsPartitionPoint}
 use Rattle.std.specs.Ordering.{is_lt, is_eq}
 use Rattle.std.proofs.lemmas.List.{get_or-map, length-map}
-use Rattle.std.proofs.lemmas.Option.{slice_get-map}
 use Rattle.dg_values.specs.Order.{text_cmp, same_text}
 use Rattle.dg_values.specs.Ascending.{Ascends, has, with_one}
 use Rattle.dg_sets.specs.Placing.{BelongsAt}
@@ -16,7 +15,7 @@ use Rattle.dg_sets.proofs.Sets.{has_with, ascends_with}
 use Rattle.dg_schema.specs.declared.definition.PredDef.{PredDef}
 use Rattle.dg_schema.specs.Definitions.{AreDistinct, definition_of, is_declared, is_named}
 use Rattle.dg_schema.specs.Places.{name_at, names_at, IsIndexed}
-use Rattle.dg_schema.proofs.Names.{same_text-equal, definition_of-append, KeepsNames, declared_kept, distinct_kept, distinct_pushed}
+use Rattle.dg_schema.proofs.Names.{same_text-equal, definition_of-append, distinct_pushed}
 
 pub no_places : IsIndexed [] []
 no_places = record { distinct = tt; within = tt; ascend = tt; whole = λ name. refl }

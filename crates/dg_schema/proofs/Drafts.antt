@@ -1,5 +1,5 @@
 -- Definitions with their places by name, and one more.
-use Rattle.std.proofs.Common.{◌≡◌, ℕ, zero, suc, ◌<◌, get_or, take, Bool, true, false, ◌||◌, cond, List, [], ◌∷◌, ◌++◌, Option, Some, None, length, refl, ap, subst, sym, ◌∙◌, arith, length-append}
+use Rattle.std.proofs.Common.{◌≡◌, ℕ, zero, suc, ◌<◌, get_or, take, Bool, true, false, ◌||◌, cond, List, [], ◌∷◌, ◌++◌, Some, length, refl, ap, sym, ◌∙◌, arith, length-append}
 use Rattle.std.specs.Prelude.{map, is_some}
 use Rattle.std.specs.List.{AllByRecursion}
 use Rattle.std.specs.Ordering.{is_eq, match_ordering}
@@ -8,11 +8,11 @@ use Rattle.std.specs.declared.cmp.Ordering.TheVariants.{Less, Equal, Greater}
 use Rattle.std.specs.BTreeMap.{is_at, insert_entry}
 use Rattle.std.specs.Map.{lookup}
 use Rattle.dg_values.specs.Order.{text_cmp, same_text}
-use Rattle.dg_values.specs.Ascending.{Ascends, has, placed, with_one}
+use Rattle.dg_values.specs.Ascending.{has, placed, with_one}
 use Rattle.dg_schema.specs.declared.definition.PredDef.{PredDef}
 use Rattle.dg_schema.specs.Definitions.{AreDistinct, is_declared, is_named}
 use Rattle.dg_schema.specs.Joined.{newest, renewed}
-use Rattle.dg_schema.specs.Places.{name_at, names_at, IsIndexed, AreKept}
+use Rattle.dg_schema.specs.Places.{name_at, names_at, AreKept}
 use Rattle.dg_schema.proofs.Names.{same_text-equal, same_text-turned, declared_kept}
 use Rattle.dg_schema.proofs.Joining.{newest_keeps}
 use Rattle.dg_schema.proofs.ByName.{no_places, name_last, names_more, indexed_by}

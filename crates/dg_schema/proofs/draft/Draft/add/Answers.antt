@@ -1,4 +1,4 @@
-use Rattle.std.proofs.Common.{◌≡◌, ℕ, ◌∷◌, ◌++◌, [], List, false, length, arith, rules, subst, sym, ◌∙◌}
+use Rattle.std.proofs.Common.{◌≡◌, ℕ, ◌∷◌, ◌++◌, [], List, false, length, rules, subst, sym, ◌∙◌}
 use Rattle.std.specs.BTreeMap.{insert_entry}
 use Rattle.dg_values.specs.Order.{text_cmp}
 use Rattle.dg_schema.specs.declared.definition.PredDef.{PredDef}
