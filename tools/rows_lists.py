@@ -407,7 +407,120 @@ def conflicts():
     row("conflict keys", ", ".join(texts) + ": true")
 
 
-for make in (bits, bases, operations, maps, lists, stores, keys, conflicts, large_maps):
+class Rule:
+    """Keys at some of so many places, ten apart, which begin anew behind the last place."""
+
+    def __init__(self, places, first, step, count):
+        self.words = f"{places} {first} {step} {count}"
+        self.keys = [10 * (1 + (first + turn * step) % places) for turn in range(count)]
+
+
+def ruled(versions, v, command, rule):
+    row(f"map@{v} {command} {rule.words}", f"version {len(versions)}")
+    puts = command in ("fill", "put")
+    made = dict(versions[v])
+    for turn, key in enumerate(rule.keys, 1):
+        made[key] = turn if puts else None
+    versions.append({k: made[k] for k in made if made[k] is not None})
+
+
+def walk(versions):
+    kept = versions[-1]
+    row("map walk", f"{len(kept)} pairs, keys {sum(kept)}, values {sum(kept.values())}, in order")
+
+
+def ask_around(versions, key):
+    v, kept = len(versions) - 1, versions[-1]
+    for k in (key - 5, key, key + 5):
+        row(f"map@{v} get {k}", kept.get(k, "none"))
+        for command, place in (("from", k), ("above", k + 1)):
+            at = min((other for other in kept if place <= other), default=None)
+            row(f"map@{v} {command} {k}", "none" if at is None else f"{at}={kept[at]}")
+
+
+def map_pages():
+    head("Maps of one page and of many, changed at their ends and in the middle. By Python's dicts.")
+    for n in (1, 64, 65, 4096, 4097):
+        row("map new", "version 0")
+        versions = [{}]
+        ruled(versions, 0, "fill", Rule(n, 0, 1, n))
+        walk(versions)
+        for key in (10, 10 * n, 10 * (1 + n // 2)):
+            for changes in ([(key - 5, 1)], [(key + 5, 2)], [(key, 3)], [(key, None)]):
+                change_map(versions, 1, changes)
+                walk(versions)
+                ask_around(versions, key)
+        change_map(versions, 1, [(10 * n + 5, 4), (10, None), (5, 6), (10 * n, None), (5, 7)])
+        walk(versions)
+        for command in ("drop", "fill"):
+            for rule in (Rule(n, 1, 617, n // 2), Rule(n, n - 1, n - 1, n // 3 + 1)):
+                ruled(versions, 1, command, rule)
+                walk(versions)
+
+
+def emptied_maps():
+    head("Maps filled and emptied pair by pair: in order, from behind and shuffled. By Python's dicts.")
+    for n in (1, 64, 65, 4096, 4097):
+        row("map new", "version 0")
+        versions = [{}]
+        ruled(versions, 0, "fill", Rule(n, 3, 617, 2 * n))
+        walk(versions)
+        for first, step in ((0, 1), (n - 1, n - 1), (2, 617)):
+            ruled(versions, 0, "put", Rule(n, first, step, n))
+            walk(versions)
+        for v, (first, step) in enumerate(((0, 1), (n - 1, n - 1), (n // 2, 617)), 1):
+            half = n - n // 2
+            ruled(versions, v, "take", Rule(n, first, step, half))
+            walk(versions)
+            ruled(versions, len(versions) - 1, "take", Rule(n, first + half * step, step, n // 2))
+            walk(versions)
+            row("map page 0", "none")
+
+
+def parts_written(parts):
+    return [f"{KEYS[k]} : {ops_words(parts[k])}" for k in sorted(parts)]
+
+
+def many_keys():
+    global seed
+    kept, seed = seed, 29
+    head("Parts and bases of many keys at once, and the key above one. By a dict of such sets.")
+    row("store new", "version 0")
+    versions = [({}, 0, 0)]
+    for step in range(18):
+        v = len(versions) - 1 if below(4) else below(len(versions))
+        lists, base, newest = made = versions[v]
+        if step % 3 == 2:
+            upto = base + below(newest - base + 2)
+            keys = sorted({one_of(lists, len(KEYS)) for _ in range(1 + below(6))})
+            for k in keys:
+                made = with_base(made, k, upto)
+            words_of_keys = [KEYS[k] for k in keys]
+            row(" | ".join([f"store@{v} bases {upto}", *words_of_keys]), f"version {len(versions)}")
+        else:
+            ts = newest + 1 + below(3)
+            parts = {one_of(lists, len(KEYS)): some_ops(4) for _ in range(1 + below(8))}
+            made = with_record(made, ts, PREDICATES, parts)
+            texts = [f"store@{v} parts {ts}", *parts_written(parts)]
+            row(" | ".join(texts), f"version {len(versions)}")
+        versions.append(made)
+        for v in (len(versions) - 1, below(len(versions))):
+            ask_store(v, versions[v])
+            k = one_of(versions[v][0], len(KEYS))
+            later = min((key for key in versions[v][0] if key > k), default=None)
+            row(f"store@{v} above {KEYS[k]}", "none" if later is None else KEYS[later])
+    head("The parts of a predicate. By the predicates of the keys.")
+    for pred in PREDICATES + ["a", "friends", "z", "日"]:
+        for _ in range(2):
+            parts = {k: some_ops(2) for k in some(len(KEYS), 14) or [0]}
+            found = [KEYS[k] for k in sorted(parts) if KEYS[k].split()[1] == pred]
+            texts = [f"store of {pred}", *parts_written(parts)]
+            row(" | ".join(texts), ", ".join(found) or "none")
+    seed = kept
+
+
+PAGED = (map_pages, emptied_maps, many_keys)
+for make in PAGED + (bits, bases, operations, maps, lists, stores, keys, conflicts, large_maps):
     make()
 for text, answer in rows:
     if sys.argv[1:] == ["stdin"]:

@@ -1,14 +1,17 @@
-//! Prints what the storage core costs: a store of keys, and a posting list of layers.
+//! Prints what the storage core costs: a store of keys, a map in pages, and a posting list of layers.
 //! With the word `time` it prints nanoseconds a call; without it, how many of the calls found something.
 #![tactic(auto)]
 
 mod fault;
 mod lists;
+mod maps;
 mod rows;
+mod shuffle;
 mod stores;
 
 use crate::lists::{print_list, print_replaced};
-use crate::stores::print_store;
+use crate::maps::print_map;
+use crate::stores::{print_filled, print_store};
 use anyhow::Result;
 use std::env;
 
@@ -21,6 +24,15 @@ fn main(rt: HostRuntime) -> Result<()> {
     };
     for size in sizes {
         print_store(&rt, rt.alloc(), *size, timed)?;
+    }
+    let more: &[u64] = if timed {
+        &[100, 1_000, 10_000, 100_000, 1_000_000]
+    } else {
+        &[10, 100]
+    };
+    for size in more {
+        print_filled(&rt, rt.alloc(), *size, timed)?;
+        print_map(&rt, rt.alloc(), *size, timed)?;
     }
     for size in sizes {
         print_list(&rt, rt.alloc(), *size, timed)?;

@@ -8,6 +8,7 @@ ghost use Rattle.dg_list.specs.Lists.{newest_ts};
 
 use crate::fault::Fault;
 use crate::rows::{Row, print_row};
+use crate::shuffle::shuffled;
 use anyhow::Result;
 use dg_delta::Op;
 use dg_keys::{Key, Part, Record};
@@ -49,6 +50,40 @@ pub(crate) fn print_store(
     let found = change(alloc, &store, &rec, held.as_slice())?;
     print_row(rt, row, "keys, with_record of one", CHANGED, since, found)?;
     Ok(())
+}
+
+// Prints what `with_record` of one key costs while a store grows to so many keys, which come in shuffled order.
+pub(crate) fn print_filled(
+    rt: &(impl Print + Clock),
+    alloc: Global,
+    size: u64,
+    timed: bool,
+) -> Result<()> {
+    let row = Row { size, timed };
+    let held = held(alloc)?;
+    let since = Instant::now(rt)?;
+    let store = grown(alloc, size, held.as_slice())?;
+    let last = key(alloc, size)?;
+    let found = u64::from(store.get(&last).is_some());
+    print_row(
+        rt,
+        row,
+        "keys, each by with_record of one, shuffled",
+        size,
+        since,
+        found,
+    )
+}
+
+// A store of so many keys, each put by a record of its own, in shuffled order.
+fn grown(alloc: Global, size: u64, held: &[Str]) -> Result<Store, Fault> {
+    let mut store = Store::new(alloc)?;
+    for turn in 0..size {
+        let subject = shuffled(turn, size);
+        let rec = record(alloc, turn + 1, subject, subject)?;
+        store = put(alloc, &store, &rec, held)?;
+    }
+    Ok(store)
 }
 
 // How many of the keys have a list.

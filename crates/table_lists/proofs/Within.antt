@@ -1,10 +1,14 @@
 -- Posting lists and stores stay within their timestamps.
-use Rattle.std.proofs.Common.{◌≡◌, ◌<◌, ◌≤◌, arith, ℕ, List, [], ◌∷◌, Bool, true, false, cond}
+use Rattle.std.proofs.Common.{◌≡◌, ◌<◌, ◌≤◌, arith, ℕ, List, [], ◌∷◌, ◌++◌, Bool, true, false, cond}
 use Rattle.std.specs.Prelude.{Some, unwrap_or, filter, nat_lt}
 use Rattle.std.specs.List.{AllByRecursion}
 use Rattle.std.specs.declared.cmp.Ordering.{Ordering}
 use Rattle.std.specs.declared.cmp.Ordering.TheVariants.{Less, Equal, Greater}
-use Rattle.std.specs.Ordering.{match_ordering, eq_by_cmp}
+use Rattle.std.specs.Ordering.{match_ordering, eq_by_cmp, on}
+use Rattle.std.specs.Arc.{arc_value}
+use Rattle.std.specs.declared.sync.Arc.{Arc}
+use Rattle.std.specs.declared.alloc.Global.{Global}
+use Rattle.dg_values.specs.Ascending.{Ascends}
 use Rattle.dg_values.specs.declared.value.Posting.{Posting}
 use Rattle.dg_delta.specs.Layers.{Changes}
 use Rattle.dg_keys.specs.Keys.{key_cmp}
@@ -12,7 +16,7 @@ use Rattle.dg_keys.specs.declared.key.Key.{Key}
 use Rattle.dg_keys.specs.declared.record.Part.{Part}
 use Rattle.dg_pages.specs.Entries.{with_entry}
 use Rattle.dg_list.specs.Lists.{Layered, newest_of, newest_ts, with_layer, with_base}
-use Rattle.dg_store.specs.Stores.{Lists, list_under, list_at, no_list, with_part, after_part, after_parts}
+use Rattle.dg_store.specs.Stores.{Lists, list_under, list_at, no_list, with_part, after_part, after_parts, base_of, bases_of, after_base, after_bases}
 use Rattle.table_lists.specs.Kept.{IsWithin, AreWithin}
 
 -- ---- one list
@@ -106,3 +110,45 @@ pub rolled_within : (rolled newest upto later : ℕ) (key : Key) (base : List Po
 rolled_within rolled newest upto later key base lists a b c w =
     let new = base_within rolled newest upto later (list_at key lists) base b c (found_within rolled newest key lists w) in
     record { each = put_within upto later key (with_base (list_at key lists) base upto) lists new (each_later rolled upto newest later lists a b c w.each); order = c }
+
+-- bases in turn, at a timestamp that no base is above
+bases_upto : (upto later : ℕ) (lists : Lists) (bases : List (Key × List Posting)) → upto ≤ later → AreWithin upto later lists → AreWithin upto later (after_bases upto lists bases)
+bases_upto upto later lists [] le w = w
+bases_upto upto later lists (b ∷ bases) le w = bases_upto upto later (after_base upto lists b) bases le (rolled_within upto later upto later b.0 b.1 lists (omega arith) (omega arith) le w)
+
+-- a store with new bases under lists
+pub bases_within : (rolled newest upto later : ℕ) (lists : Lists) (bases : List (Key × List Posting)) → rolled ≤ upto → newest ≤ later → upto ≤ later → AreWithin rolled newest lists → AreWithin upto later (after_bases upto lists bases)
+bases_within rolled newest upto later lists bases a b c w = bases_upto upto later lists bases c (record { each = each_later rolled upto newest later lists a b c w.each; order = c })
+
+-- no base of a store is above a later timestamp
+pub bases_below : (rolled newest upto : ℕ) (lists : Lists) (bases : List (Key × List Posting)) → rolled ≤ upto → AreWithin rolled newest lists → AllByRecursion (λ b. (list_at b.0 lists).base_ts ≤ upto) bases
+bases_below rolled newest upto lists [] le w = tt
+bases_below rolled newest upto lists (b ∷ bases) le w =
+    let found = found_within rolled newest b.0 lists w in
+    (omega (arith, found.base), bases_below rolled newest upto lists bases le w)
+
+-- ---- bases by their pointers
+
+abbrev pub base_key : Arc Key Global × Arc (List Posting) Global → Key
+base_key b = arc_value b.0
+
+all_keys : (key : Key) (bs : List (Arc Key Global × Arc (List Posting) Global)) → AllByRecursion (λ b. key_cmp key (base_key b) ≡ Less) bs → AllByRecursion (λ b. key_cmp key b.0 ≡ Less) (bases_of bs)
+all_keys key [] a = tt
+all_keys key (b ∷ bs) a = (a.0, all_keys key bs a.1)
+
+pub keys_ascend : (bs : List (Arc Key Global × Arc (List Posting) Global)) → Ascends (on base_key key_cmp) bs → Ascends (on (λ b. b.0) key_cmp) (bases_of bs)
+keys_ascend [] a = tt
+keys_ascend (b ∷ bs) a = (all_keys (base_key b) bs a.0, keys_ascend bs a.1)
+
+all_pointers : (key : Key) (bs : List (Arc Key Global × Arc (List Posting) Global)) → AllByRecursion (λ b. key_cmp key b.0 ≡ Less) (bases_of bs) → AllByRecursion (λ b. key_cmp key (base_key b) ≡ Less) bs
+all_pointers key [] a = tt
+all_pointers key (b ∷ bs) a = (a.0, all_pointers key bs a.1)
+
+pub pointers_ascend : (bs : List (Arc Key Global × Arc (List Posting) Global)) → Ascends (on (λ b. b.0) key_cmp) (bases_of bs) → Ascends (on base_key key_cmp) bs
+pointers_ascend [] a = tt
+pointers_ascend (b ∷ bs) a = (all_pointers (base_key b) bs a.0, pointers_ascend bs a.1)
+
+-- one more base that is as the others are
+pub one_more : (P : Key × List Posting → Type 0) (bs : List (Arc Key Global × Arc (List Posting) Global)) (b : Arc Key Global × Arc (List Posting) Global) → AllByRecursion P (bases_of bs) → P (base_of b) → AllByRecursion P (bases_of (bs ++ b ∷ []))
+one_more P [] b a p = (p, tt)
+one_more P (x ∷ bs) b a p = (a.0, one_more P bs b a.1 p)

@@ -16,6 +16,7 @@ mod kept_store;
 mod keys;
 mod lists;
 mod maps;
+mod pages;
 mod postings;
 mod reads;
 mod stores;

@@ -1,5 +1,6 @@
 // The table of ordered maps from numbers to numbers.
 use crate::fault::{Answer, Fault};
+use crate::pages::{made, page_text, walked};
 use crate::versions::{add, at};
 use crate::words::{number, only_number};
 use dg_pages::Pages;
@@ -29,7 +30,13 @@ pub(crate) fn answer(
         }
         "get" => found(alloc, map, only_number(words)?),
         "from" => next(alloc, map, only_number(words)?),
-        _ => Err(Fault::Unfit),
+        "above" => above(alloc, map, only_number(words)?),
+        "page" => page_text(alloc, map, only_number(words)?),
+        "walk" => walked(alloc, map),
+        _ => {
+            let changed = made(alloc, map, command, words)?;
+            add(alloc, maps, changed)
+        }
     }
 }
 
@@ -63,7 +70,16 @@ fn found(alloc: Global, map: &Pages<u64, u64>, key: u64) -> Answer<String> {
 
 // The least key at or above one, and its value.
 fn next(alloc: Global, map: &Pages<u64, u64>, from: u64) -> Answer<String> {
-    match map.next_from(&from) {
+    pair_text(alloc, map.next_from(&from))
+}
+
+// The least key above one, and its value.
+fn above(alloc: Global, map: &Pages<u64, u64>, key: u64) -> Answer<String> {
+    pair_text(alloc, map.next_above(&key))
+}
+
+fn pair_text(alloc: Global, pair: Option<(&Arc<u64>, &Arc<u64>)>) -> Answer<String> {
+    match pair {
         Some((key, value)) => Ok(format!(in alloc; "{}={}", **key, **value)?),
         None => Ok(String::from_str(alloc, "none")?),
     }

@@ -14,8 +14,10 @@ use crate::words::{any, halves, number, only_number, text, truth};
 use dg_delta::merge_ops;
 use dg_keys::{Part, Record};
 use dg_sets::InOrder;
-use dg_values::{List, Str};
+use dg_store::parts_of;
+use dg_values::{List, Mem, OutOfMemory, Str};
 use std::alloc::Global;
+use std::sync::Arc;
 
 pub(crate) fn answer(
     alloc: Global,
@@ -50,6 +52,8 @@ fn made(
             let key = key(alloc, words)?;
             Ok(Some(store.with_base(alloc, &key, only_number(upto)?)?))
         }
+        "parts" => Ok(Some(parted(alloc, store, words)?)),
+        "bases" => Ok(Some(rolled(alloc, store, words)?)),
         _ => Ok(None),
     }
 }
@@ -61,6 +65,23 @@ fn recorded(alloc: Global, store: &KeptStore, words: &[&str]) -> Answer<KeptStor
     let held = names(alloc, held)?;
     let rec = record(alloc, only_number(ts)?, words)?;
     store.with_record(alloc, &rec, held.as_slice())
+}
+
+// The store after parts: their timestamp, and the parts, with `|` between.
+fn parted(alloc: Global, store: &KeptStore, words: &[&str]) -> Answer<KeptStore> {
+    let (ts, words) = halves(words, "|")?;
+    let rec = record(alloc, only_number(ts)?, words)?;
+    store.with_parts(alloc, rec.ts, rec.parts.as_slice())
+}
+
+// The store after bases: a timestamp, and the keys of their lists, with `|` between.
+fn rolled(alloc: Global, store: &KeptStore, words: &[&str]) -> Answer<KeptStore> {
+    let (upto, words) = halves(words, "|")?;
+    let mut keys = Vec::new(alloc);
+    for words in words.split(|word| *word == "|") {
+        keys.push(Arc::new(alloc, key(alloc, words)?)?)?;
+    }
+    store.with_bases(alloc, keys.as_slice(), only_number(upto)?)
 }
 
 fn names(alloc: Global, words: &[&str]) -> Answer<Vec<Str>> {
@@ -116,6 +137,8 @@ fn asked(alloc: Global, store: &KeptStore, command: &str, words: &[&str]) -> Ans
     match command {
         "get" => listed(alloc, store, words),
         "from" => next(alloc, store, words),
+        "above" => above(alloc, store, words),
+        "of" => parts_on(alloc, words),
         "layered" => layered(alloc, store, words),
         "read" => read(alloc, store, words),
         "has" => has(alloc, store, words),
@@ -140,6 +163,37 @@ fn next(alloc: Global, store: &KeptStore, words: &[&str]) -> Answer<String> {
         Some((key, _)) => Ok(key_text(alloc, key)?),
         None => Ok(String::from_str(alloc, "none")?),
     }
+}
+
+// The least key above one.
+fn above(alloc: Global, store: &KeptStore, words: &[&str]) -> Answer<String> {
+    let after = key(alloc, words)?;
+    match store.store().scan_above(&after) {
+        Some((key, _)) => Ok(key_text(alloc, key)?),
+        None => Ok(String::from_str(alloc, "none")?),
+    }
+}
+
+// The keys of the parts of a predicate, among parts whose keys have to ascend.
+fn parts_on(alloc: Global, words: &[&str]) -> Answer<String> {
+    let (pred, words) = halves(words, "|")?;
+    let [pred] = *pred else {
+        return Err(Fault::Unfit);
+    };
+    let rec = record(alloc, 1, words)?;
+    let pred = text(alloc, pred)?;
+    Ok(keys_text(alloc, parts_of(rec.parts.as_slice(), &pred))?)
+}
+
+fn keys_text(alloc: Global, parts: &[Part]) -> Mem<String> {
+    if parts.is_empty() {
+        return Ok(String::from_str(alloc, "none")?);
+    }
+    let mut texts = Vec::new(alloc);
+    for part in parts {
+        texts.push(key_text(alloc, &part.key)?)?;
+    }
+    Ok(texts.as_slice().join(alloc, ", ")?)
 }
 
 // Whether the list of a key has a layer at or below a timestamp.
