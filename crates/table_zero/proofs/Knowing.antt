@@ -1,6 +1,6 @@
 -- What is known of the state that coordinates all, through each entry of its history.
 use Rattle.std.proofs.Common.{◌≡◌, ℕ, ◌+◌, ◌≤◌, Bool, true, false, cond, List, [], ◌∷◌, ◌++◌, refl, ap, subst, sym, ◌∙◌, arith}
-use Rattle.std.specs.Prelude.{nat_le}
+use Rattle.std.specs.Prelude.{nat_le, Result, Ok, Err, IfOk, OnErr}
 use Rattle.dg_schema.specs.declared.definition.PredDef.{PredDef}
 use Rattle.dg_keys.specs.declared.record.Part.{Part}
 use Rattle.dg_zero.specs.declared.entry.Entry.{Entry}
@@ -57,9 +57,10 @@ begun_known z w starts altered author slip start k slip_is is legal start_is =
 pub looked_known : (z w : Zero) (starts : List Started) (altered slip : ℕ) → IsKnown z starts altered → w ≡ and_then z slip Look → IsLegal w.groups w.history → IsKnown w starts altered
 looked_known z w starts altered slip k is legal = known_after z w starts starts altered slip Look k is legal (λ u. refl) refl
 
--- nodes are leased
-pub leased_known : (z w : Zero) (starts : List Started) (altered slip top count first : ℕ) → IsKnown z starts altered → w ≡ and_then z slip (Lease top count first) → IsLegal w.groups w.history → IsKnown w starts altered
-leased_known z w starts altered slip top count first k is legal = known_after z w starts starts altered slip (Lease top count first) k is legal (λ u. refl) refl
+-- nodes are leased, or not
+pub leased_known : {E : Type 0} (z w : Zero) (starts : List Started) (altered slip top count : ℕ) (leased : Result ℕ E) → IsKnown z starts altered → IfOk leased (λ first. w ≡ and_then z slip (Lease top count first)) → OnErr leased (w ≡ and_then z slip Look) → IsLegal w.groups w.history → IsKnown w starts altered
+leased_known z w starts altered slip top count (Ok first) k ok err legal = known_after z w starts starts altered slip (Lease top count first) k ok legal (λ u. refl) refl
+leased_known z w starts altered slip top count (Err fault) k ok err legal = known_after z w starts starts altered slip Look k err legal (λ u. refl) refl
 
 -- a transaction ends, where it was active
 pub ended_known : (z w : Zero) (starts after : List Started) (altered slip start : ℕ) (was : Bool) → IsKnown z starts altered → w ≡ and_then z slip (cond was (End start) Look) → IsLegal w.groups w.history → after ≡ cond was (ended starts start) starts → IsKnown w after altered

@@ -3,13 +3,13 @@ ghost use Rattle.std.specs.Prelude.{◌≡◌};
 ghost use Rattle.std.specs.List.{AllByRecursion};
 ghost use Rattle.dg_nquad.specs.Plain.{HasNoVariable};
 
+use crate::counted;
 use crate::fault::{Answer, Fault};
 use crate::ground::{Ground, MOST};
 use crate::lawful::lawful_at;
 use crate::listing::{keys_text, names_text, parts_text};
 use crate::postings::{changes, changes_text};
 use crate::words::{halved, number, told, truth, words_of};
-use crate::counted;
 use dg_edges::{
     EdgeFault, Resolved, are_fitting, changes_as_parts, commits_as_changes, is_plain, mutations,
     offers, preds_of, resolve,
@@ -22,6 +22,7 @@ use std::alloc::Global;
 
 // The greatest number from which new nodes are numbered here, and the most names of them.
 const LAST_FIRST: u64 = 1 << 62;
+
 const MOST_NAMES: usize = 1_000;
 
 pub(crate) fn answer(
@@ -62,12 +63,7 @@ fn asked(alloc: Global, ground: &Ground, command: &str, rest: &str) -> Answer<St
     }
 }
 
-fn of_changes(
-    alloc: Global,
-    ground: &Ground,
-    command: &str,
-    changes: &[Change],
-) -> Answer<String> {
+fn of_changes(alloc: Global, ground: &Ground, command: &str, changes: &[Change]) -> Answer<String> {
     match command {
         "fitting" => truth(alloc, are_fitting(&ground.at.schema, changes)),
         "preds" => {

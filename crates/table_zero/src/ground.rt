@@ -52,8 +52,9 @@ pub(crate) fn schema_of(alloc: Global, text: &str) -> Answer<Schema> {
 // The lines of a schema, with a picture in the place of the end of each.
 pub(crate) fn schema_text(alloc: Global, schema: &Schema) -> Answer<String> {
     let text = schema.text_of()?;
-    Ok(text
-        .chars()
-        .map(|c| if c == '\n' { '␊' } else { c })
-        .collect(alloc)?)
+    Ok(
+        text.chars()
+            .map(|c| if c == '\n' { '␊' } else { c })
+            .collect(alloc)?,
+    )
 }

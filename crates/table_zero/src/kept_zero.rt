@@ -92,10 +92,7 @@ impl KeptZero {
         count: u64,
     ) -> Answer<Result<u64, ZeroFault>> {
         let slip = Slip::new(alloc, author)?;
-        match self.zero.lease(slip, top, count) {
-            Ok(first) => Ok(Ok(first)),
-            Err(fault) => Ok(Err(fault)),
-        }
+        Ok(self.zero.lease(slip, top, count))
     }
 
     // Adds or replaces definitions without directives, where those of predicates with triples keep their kinds.
@@ -105,7 +102,7 @@ impl KeptZero {
         newer: &Schema,
     ) -> Answer<Result<(u64, u64), ZeroFault>> {
         let slip = Slip::new(alloc, 0)?;
-        if !is_plain(self.zero.schema()) || !is_plain(newer) {
+        if !are_plain(&self.zero, newer) {
             return Err(Fault::Unfit);
         }
         if !keep_kinds(alloc, &self.zero, newer.definitions())? {
@@ -151,13 +148,7 @@ impl KeptZero {
     }
 
     // The objects of a subject at a timestamp, where the schema there is the present one.
-    pub(crate) fn objects(
-        &self,
-        alloc: Global,
-        at: u64,
-        p: &Str,
-        s: u64,
-    ) -> Answer<Vec<Posting>> {
+    pub(crate) fn objects(&self, alloc: Global, at: u64, p: &Str, s: u64) -> Answer<Vec<Posting>> {
         if at < self.altered {
             return Err(Fault::Unfit);
         }
@@ -210,6 +201,13 @@ fn offer_at(alloc: Global, zero: &ZeroState, start: u64, changes: &[Change]) -> 
 {
     let seen = zero.seen_at(alloc, zero.schema(), start)?;
     counted::offer(alloc, &seen, start, changes)
+}
+
+// Whether neither present nor newer definitions have index, reverse or count.
+fn are_plain(zero: &ZeroState, newer: &Schema) -> bool
+    ensures { IsTrue result → IsPlain (schema zero.now.history) × IsPlain newer.now }
+{
+    is_plain(zero.schema()) && is_plain(newer)
 }
 
 // Whether two kinds are one.

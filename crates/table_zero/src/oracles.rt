@@ -36,12 +36,7 @@ fn told_fault(alloc: Global, word: &str) -> Answer<String> {
     Ok(format!(in alloc; "{fault}")?)
 }
 
-fn asked(
-    alloc: Global,
-    kept: &mut KeptOracle<Color>,
-    command: &str,
-    rest: &str,
-) -> Answer<String> {
+fn asked(alloc: Global, kept: &mut KeptOracle<Color>, command: &str, rest: &str) -> Answer<String> {
     match command {
         "next" => Ok(kept.oracle().next().to_string(alloc)?),
         "first" => maybe(alloc, kept.oracle().first_active()),

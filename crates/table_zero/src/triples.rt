@@ -8,9 +8,7 @@ use crate::fault::{Answer, Fault};
 use crate::ground::{Ground, schema_of, schema_text};
 use crate::postings::{changes, postings_text, triple, triple_text};
 use crate::words::{listed, number, sides, told, truth, words_of};
-use dg_graph::{
-    Change, Triple, change_objects, graphs, is_of_subject, is_single, lists_of_graphs,
-};
+use dg_graph::{Change, Triple, change_objects, graphs, is_of_subject, is_single, lists_of_graphs};
 use dg_schema::Schema;
 use dg_sets::InOrder;
 use dg_values::{Mem, OutOfMemory, Posting, Str};

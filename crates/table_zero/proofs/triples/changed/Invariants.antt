@@ -3,4 +3,4 @@ use Rattle.dg_values.specs.Order.{posting_cmp}
 use Rattle.table_zero.proofs.triples.changed.Given as goal
 
 abbrev pub invariant-loop-change : goal.invariant-loop-change
-invariant-loop-change l = Ascends posting_cmp l.objects
+invariant-loop-change l = Ascends posting_cmp l.objects.items

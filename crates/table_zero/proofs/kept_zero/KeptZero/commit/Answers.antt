@@ -3,8 +3,8 @@ use Rattle.dg_zero.specs.Counters.{ended}
 use Rattle.table_zero.proofs.Knowing.{committed_known, refused_known}
 use Rattle.table_zero.proofs.kept_zero.KeptZero.commit.Goals as goal
 
-pub invariant_of-self-in-Ok : goal.invariant_of-self-in-Ok
-invariant_of-self-in-Ok c = committed_known c.self.inside.zero c.commit.new.self c.self.inside.starts.items c.drop_start.new.starts.items c.self.inside.altered c.in_ok-slip.slip c.args.start c.in-Ok.ts c.in_ok-offer.offer c.self.invariant c.in-Ok.ensures.ok c.in-Ok.ensures.legal c.in_ok-offer.ensures.start c.drop_start.ensures
+pub invariant_of-self : goal.invariant_of-self
+invariant_of-self c = committed_known c.self.inside.zero c.commit.new.self c.self.inside.starts.items c.drop_start.new.starts.items c.self.inside.altered c.in_ok-slip.slip c.args.start c.in-Ok.ts c.in_ok-offer.offer c.self.invariant c.in-Ok.ensures.ok c.in-Ok.ensures.legal c.in_ok-offer.ensures.start c.drop_start.ensures
 
 pub invariant_of-self-in-Err : goal.invariant_of-self-in-Err
 invariant_of-self-in-Err c =

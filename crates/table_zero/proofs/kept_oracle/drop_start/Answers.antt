@@ -1,0 +1,7 @@
+use Rattle.std.proofs.Common.{not, rules}
+use Rattle.std.specs.Prelude.{◌==◌}
+use Rattle.std.proofs.lemmas.Fn.{filter_same}
+use Rattle.table_zero.proofs.kept_oracle.drop_start.Goals as goal
+
+pub returns : goal.returns
+returns c = filter_same _ (λ s. not (s == c.args.start)) _ (λ x b f' k. search rules) _ _ c.retain.ensures.filtered
