@@ -1,5 +1,5 @@
 -- What is known of the state that coordinates all, through each entry of its history.
-use Rattle.std.proofs.Common.{◌≡◌, ℕ, ◌+◌, ◌≤◌, Bool, true, false, cond, List, [], ◌∷◌, ◌++◌, refl, ap, subst, sym, ◌∙◌, arith}
+use Rattle.std.proofs.Common.{◌≡◌, ℕ, ◌+◌, Bool, true, false, cond, List, [], ◌∷◌, ◌++◌, refl, ap, subst, sym, ◌∙◌, arith}
 use Rattle.std.specs.Prelude.{nat_le, Result, Ok, Err, IfOk, OnErr}
 use Rattle.dg_schema.specs.declared.definition.PredDef.{PredDef}
 use Rattle.dg_keys.specs.declared.record.Part.{Part}
