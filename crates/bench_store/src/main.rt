@@ -1,12 +1,14 @@
-//! Prints what the storage core costs: a store of keys, and a posting list of layers.
+//! Prints what the storage core costs: a store of keys, a posting list of layers, and a base of nodes.
 //! With the word `time` it prints nanoseconds a call; without it, how many of the calls found something.
 #![tactic(auto)]
 
+mod bases;
 mod fault;
 mod lists;
 mod rows;
 mod stores;
 
+use crate::bases::print_base;
 use crate::lists::{print_list, print_replaced};
 use crate::stores::print_store;
 use anyhow::Result;
@@ -25,6 +27,14 @@ fn main(rt: HostRuntime) -> Result<()> {
     for size in sizes {
         print_list(&rt, rt.alloc(), *size, timed)?;
         print_replaced(&rt, rt.alloc(), *size, timed)?;
+    }
+    let sizes: &[u64] = if timed {
+        &[1_000, 100_000, 1_000_000]
+    } else {
+        &[10, 1_000]
+    };
+    for size in sizes {
+        print_base(&rt, rt.alloc(), *size, timed)?;
     }
     Ok(())
 }
