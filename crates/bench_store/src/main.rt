@@ -1,7 +1,8 @@
-//! Prints what the storage core costs: a store of keys, a map in pages, and a posting list of layers.
+//! Prints what the storage core costs: a store of keys, a map in pages, a posting list of layers, and a base of nodes.
 //! With the word `time` it prints nanoseconds a call; without it, how many of the calls found something.
 #![tactic(auto)]
 
+mod bases;
 mod fault;
 mod lists;
 mod maps;
@@ -9,6 +10,7 @@ mod rows;
 mod shuffle;
 mod stores;
 
+use crate::bases::print_base;
 use crate::lists::{print_list, print_replaced};
 use crate::maps::print_map;
 use crate::stores::{print_filled, print_store};
@@ -37,6 +39,14 @@ fn main(rt: HostRuntime) -> Result<()> {
     for size in sizes {
         print_list(&rt, rt.alloc(), *size, timed)?;
         print_replaced(&rt, rt.alloc(), *size, timed)?;
+    }
+    let sizes: &[u64] = if timed {
+        &[1_000, 100_000, 1_000_000]
+    } else {
+        &[10, 1_000]
+    };
+    for size in sizes {
+        print_base(&rt, rt.alloc(), *size, timed)?;
     }
     Ok(())
 }

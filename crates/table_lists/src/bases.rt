@@ -1,9 +1,10 @@
-// The table of bases: one is packed, and then found in and walked.
+// The table of bases: one is packed, and then found in and walked, and its bytes are shown.
 use crate::fault::{Answer, Fault};
 use crate::postings::{posting, postings, postings_text};
 use crate::words::{number, truth};
 use dg_base::Base;
 use dg_sets::ascend;
+use dg_values::{Mem, OutOfMemory, Posting};
 use std::alloc::Global;
 
 pub(crate) fn answer(
@@ -12,12 +13,23 @@ pub(crate) fn answer(
     command: &str,
     words: &[&str],
 ) -> Answer<String> {
-    if command == "new" {
-        let base = packed(alloc, words)?;
-        let len = base.len();
-        *kept = Some(base);
-        return Ok(len.to_string(alloc)?);
-    }
+    let made = match command {
+        "new" => packed(alloc, postings(alloc, words)?.as_slice())?,
+        "range" => packed(alloc, ranged(alloc, words)?.as_slice())?,
+        _ => return answer_of_kept(alloc, kept, command, words),
+    };
+    let len = made.len();
+    *kept = Some(made);
+    Ok(len.to_string(alloc)?)
+}
+
+// The answer of a row about the base that was made last.
+fn answer_of_kept(
+    alloc: Global,
+    kept: &Option<Base>,
+    command: &str,
+    words: &[&str],
+) -> Answer<String> {
     match kept {
         Some(base) => asked(alloc, base, command, words),
         None => Err(Fault::Unfit),
@@ -25,22 +37,59 @@ pub(crate) fn answer(
 }
 
 // A base of postings, which have to ascend.
-fn packed(alloc: Global, words: &[&str]) -> Answer<Base> {
-    let items = postings(alloc, words)?;
-    if !ascend(items.as_slice()) {
+fn packed(alloc: Global, items: &[Posting]) -> Answer<Base> {
+    if !ascend(items) {
         return Err(Fault::Unfit);
     }
-    Ok(Base::pack(alloc, items.as_slice())?)
+    Ok(Base::pack(alloc, items)?)
+}
+
+// Nodes from a first one on, so many and so far apart, and postings behind them.
+fn ranged(alloc: Global, words: &[&str]) -> Answer<Vec<Posting>> {
+    let [from, count, apart, rest @ ..] = words else {
+        return Err(Fault::Unfit);
+    };
+    let mut items = nodes(alloc, number(from)?, number(count)?, number(apart)?)?;
+    for item in postings(alloc, rest)? {
+        items.push(item)?;
+    }
+    Ok(items)
+}
+
+fn nodes(alloc: Global, from: u64, count: u64, apart: u64) -> Answer<Vec<Posting>> {
+    let mut nodes = Vec::new(alloc);
+    let mut next = Some(from);
+    for _ in 0..count {
+        let Some(node) = next else {
+            return Err(Fault::Unfit);
+        };
+        nodes.push(Posting::Uid(node))?;
+        next = node.checked_add(apart);
+    }
+    Ok(nodes)
 }
 
 fn asked(alloc: Global, base: &Base, command: &str, words: &[&str]) -> Answer<String> {
     match (command, words) {
         ("len", []) => Ok(base.len().to_string(alloc)?),
+        ("bytes", []) => Ok(hex(alloc, base.packed())?),
         ("find", [word]) => Ok(truth(alloc, base.find(&posting(alloc, word)?))?),
         ("seek", [word]) => Ok(base.seek(&posting(alloc, word)?).to_string(alloc)?),
         ("walk", [from, most]) => walked(alloc, base, number(from)?, number(most)?),
         _ => Err(Fault::Unfit),
     }
+}
+
+// Bytes in two hexadecimal digits each, or the word for none.
+fn hex(alloc: Global, bytes: &[u8]) -> Mem<String> {
+    if bytes.is_empty() {
+        return Ok(String::from_str(alloc, "none")?);
+    }
+    let mut text = String::new(alloc);
+    for byte in bytes {
+        text.push_str(format!(in alloc; "{byte:02x}")?.as_str())?;
+    }
+    Ok(text)
 }
 
 fn walked(alloc: Global, base: &Base, from: u64, most: u64) -> Answer<String> {
