@@ -72,7 +72,6 @@ fn query_pieces(alloc: Global, tokens: &[Piece], end: usize) -> Result<Query, Dq
 }
 
 // The query that a text with these tokens says.
-#[tactic(auto, using(crate::proofs::Few::are_few))]
 fn query_tokens(alloc: Global, text: &str, tokens: &[Token]) -> Result<Query, DqlFault>
     requires size { length text.now ≤ 1048576 }
     requires cut { AreCut text.now tokens.now }
@@ -121,7 +120,6 @@ fn upsert_pieces(alloc: Global, tokens: &[Piece], end: usize) -> Result<Upsert, 
 }
 
 // The upsert block that a text with these tokens says.
-#[tactic(auto, using(crate::proofs::Few::are_few))]
 fn upsert_tokens(alloc: Global, text: &str, tokens: &[Token]) -> Result<Upsert, DqlFault>
     requires size { length text.now ≤ 1048576 }
     requires cut { AreCut text.now tokens.now }
