@@ -204,8 +204,10 @@ def lex(text: str) -> tuple[list[Token], Optional[int]]:
     """The tokens of a text up to a byte that begins none, if there is one."""
     tokens: list[Token] = []
     at = BLANKS.match(text).end()  # type: ignore[union-attr]
+    counted, offset = 0, 0
     while at < len(text):
-        offset = len(text[:at].encode())
+        offset += len(text[counted:at].encode())
+        counted = at
         matched = [(match.end(), kind) for kind, form in FORMS if (match := form.match(text, at))]
         ends = {end: kind for end, kind in matched if spelled(kind, text[at:end]) is not None}
         longest = max(ends, default=at)
