@@ -79,10 +79,8 @@ impl Fields {
         } = self;
         let key = key_of(alloc, &field)?;
         fields.push(field)?;
-        match keys.insert(key) {
-            Ok(_) => Ok(Fields { fields, keys }),
-            Err(_) => Err(ReadError::OutOfMemory),
-        }
+        keys.insert(key)?;
+        Ok(Fields { fields, keys })
     }
 
     /// The fields. It takes no memory.
@@ -150,10 +148,8 @@ impl Blocks {
         } = self;
         let name = owned(alloc, block.name.as_str())?;
         blocks.push(block)?;
-        match names.insert(name) {
-            Ok(_) => Ok(Blocks { blocks, names }),
-            Err(_) => Err(ReadError::OutOfMemory),
-        }
+        names.insert(name)?;
+        Ok(Blocks { blocks, names })
     }
 
     /// The blocks. It takes no memory.
