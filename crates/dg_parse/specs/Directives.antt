@@ -7,7 +7,6 @@ use Rattle.dg_text.specs.Reading.{◌>>=◌, ◌>>◌, give, next, one_as}
 use Rattle.dg_text.specs.Tokens.{Tok, is_punct, is_word}
 use Rattle.dg_parse.specs.declared.directives.Marks.{Marks}
 use Rattle.dg_parse.specs.declared.directives.Owner.{Owner}
-use Rattle.dg_parse.specs.declared.query.QDir.{QDir}
 use Rattle.dg_parse.specs.declared.query.QDir.TheVariants as dirs
 use Rattle.dg_parse.specs.declared.query.QOpt.{QOpt}
 use Rattle.dg_parse.specs.declared.query.QOpt.TheVariants as options

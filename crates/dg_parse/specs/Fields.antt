@@ -1,5 +1,5 @@
 -- The fields of a query, written as they are read.
-use Rattle.std.specs.Prelude.{ℕ, zero, suc, Bool, true, false, not, ◌||◌, ◌&&◌, List, [], ◌∷◌, ◌++◌, Option, Some, None, is_some, codes}
+use Rattle.std.specs.Prelude.{ℕ, zero, suc, Bool, false, not, ◌||◌, ◌&&◌, List, [], ◌∷◌, ◌++◌, Option, Some, None, is_some, codes}
 use Rattle.dg_text.specs.Cases.{Reader, part, mark, word, also_at, also_next, here, choose, optional, repeated}
 use Rattle.dg_text.specs.Marks.{open_round, close_round, open_curly, close_curly, comma, tilde}
 use Rattle.dg_text.specs.Reading.{◌>>=◌, ◌>>◌, give, next, one_as, offends}

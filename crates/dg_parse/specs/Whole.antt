@@ -1,5 +1,5 @@
 -- The query of a whole text, or its fault.
-use Rattle.std.specs.Prelude.{ℕ, List, [], Option, Some, None, Result, Ok, Err, ◌≡◌, length}
+use Rattle.std.specs.Prelude.{ℕ, List, Option, Some, None, Result, Ok, Err, ◌≡◌, length}
 use Rattle.dg_text.specs.Tokens.{Tok, toks_of}
 use Rattle.dg_text.specs.Lexing.{lexed}
 use Rattle.dg_text.specs.declared.token.Token.{Token}

@@ -90,7 +90,10 @@ fn item_text(alloc: Global, item: &QItem) -> Mem<String> {
         QItem::Val(x) => Ok(format!(in alloc; "val({x})")?),
         QItem::Agg { op, var } => Ok(format!(in alloc; "{}(val({var}))", agg_word(*op))?),
         QItem::Edge {
-            edge, args, dirs, ..
+            edge,
+            args,
+            dirs,
+            ..
         } => {
             let mut text = edge_text(alloc, edge)?;
             push_args(alloc, &mut text, args.as_slice())?;

@@ -10,11 +10,10 @@ mod functions;
 mod pictures;
 mod texts;
 
-use std::alloc::{AllocError, Global};
-use std::io::{self, BufRead, BufReader};
-
 use crate::pictures::plain;
 use dg_values::{Mem, OutOfMemory};
+use std::alloc::{AllocError, Global};
+use std::io::{self, BufRead, BufReader};
 
 // The most bytes that a text has.
 const MOST: usize = 1_048_576;

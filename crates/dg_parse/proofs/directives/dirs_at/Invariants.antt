@@ -1,6 +1,6 @@
-use Rattle.std.proofs.Common.{◌≡◌, drop, ◌-◌, []}
-use Rattle.dg_text.specs.Reading.{next, turns}
-use Rattle.dg_text.specs.Tokens.{toks, is_punct, is_name}
+use Rattle.std.proofs.Common.{◌≡◌, ◌-◌}
+use Rattle.dg_text.specs.Reading.{turns}
+use Rattle.dg_text.specs.Tokens.{toks}
 use Rattle.dg_text.specs.Cases.{upon, repeated, left_of}
 use Rattle.dg_parse.specs.Directives.{begins_dir, dir, unmarked}
 use Rattle.dg_parse.proofs.directives.dirs_at.Given as goal

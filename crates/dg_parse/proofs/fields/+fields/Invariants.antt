@@ -1,7 +1,7 @@
 use Rattle.std.proofs.Common.{◌≡◌, ◌+◌, ◌-◌, ◌*◌}
 use Rattle.dg_text.specs.Reading.{turns}
 use Rattle.dg_text.specs.Tokens.{toks}
-use Rattle.dg_text.specs.Cases.{upon, repeated, left_of}
+use Rattle.dg_text.specs.Cases.{upon, left_of}
 use Rattle.dg_parse.specs.Fields.{begins_field, field, fields, some_fields}
 use Rattle.dg_parse.proofs.fields.+fields.Given as goal
 

@@ -1,4 +1,4 @@
-use Rattle.std.proofs.Common.{◌≡◌, drop, ◌-◌, ◌≤◌}
+use Rattle.std.proofs.Common.{◌≡◌, ◌-◌, ◌≤◌}
 use Rattle.dg_text.specs.Reading.{next, turns}
 use Rattle.dg_text.specs.Tokens.{toks, is_word_any_case}
 use Rattle.std.specs.Prelude.{codes}

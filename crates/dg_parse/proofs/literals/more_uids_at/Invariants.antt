@@ -1,6 +1,6 @@
-use Rattle.std.proofs.Common.{◌≡◌, drop, ◌-◌, []}
+use Rattle.std.proofs.Common.{◌≡◌, ◌-◌}
 use Rattle.dg_text.specs.Reading.{next, turns}
-use Rattle.dg_text.specs.Tokens.{toks, is_punct, is_name}
+use Rattle.dg_text.specs.Tokens.{toks, is_punct}
 use Rattle.dg_text.specs.Cases.{upon, repeated, left_of}
 use Rattle.dg_text.specs.Marks.{comma}
 use Rattle.dg_parse.specs.Literals.{comma_uid}
