@@ -1,3 +1,0 @@
--- What the proofs of the grammar share.
-pub mod Few
-pub mod OwnKeys
