@@ -1,5 +1,6 @@
 // What the tokens of a text are.
 ghost use Rattle.dg_text.specs.Laws.{FindsToken, FindsNone, FrontIsTokens, FrontReads, LexedIsTokens, LexedStops};
+ghost use Rattle.dg_text.specs.Written.{WordsAreRead};
 
 /// The token that is found at the front of a text is the one that starts it, and none is found exactly where none starts.
 pub fn tokens_start()
@@ -17,4 +18,9 @@ pub fn fronts_are_tokens()
 pub fn texts_are_tokens()
     ensures tokens { LexedIsTokens }
     ensures fault { LexedStops }
+{}
+
+/// Words that are written with a blank behind each are read as the tokens that they are.
+pub fn words_are_read()
+    ensures { WordsAreRead }
 {}
