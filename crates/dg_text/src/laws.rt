@@ -1,6 +1,7 @@
 // What the tokens of a text are.
 ghost use Rattle.dg_text.specs.Laws.{FindsToken, FindsNone, FrontIsTokens, FrontReads, LexedIsTokens, LexedStops};
 ghost use Rattle.dg_text.specs.Written.{WordsAreRead};
+ghost use Rattle.dg_text.specs.Quoting.{QuotesAreWords, QuotesMeanTexts};
 
 /// The token that is found at the front of a text is the one that starts it, and none is found exactly where none starts.
 pub fn tokens_start()
@@ -23,4 +24,10 @@ pub fn texts_are_tokens()
 /// Words that are written with a blank behind each are read as the tokens that they are.
 pub fn words_are_read()
     ensures { WordsAreRead }
+{}
+
+/// Each text can be written as a Quoted token, and this token means the text.
+pub fn quotes_read_back()
+    ensures word { QuotesAreWords }
+    ensures meant { QuotesMeanTexts }
 {}
