@@ -1,5 +1,6 @@
 // What the tokens of a text are.
 ghost use Rattle.dg_text.specs.Laws.{FindsToken, FindsNone, FrontIsTokens, FrontReads, LexedIsTokens, LexedStops};
+ghost use Rattle.dg_text.specs.SpellingLaws.{NodesReadBack, NodesAreBounded, IrisSayThem, IrisAreWords, NamesReadBack, BlanksReadBack, SignsAreWords};
 
 /// The token that is found at the front of a text is the one that starts it, and none is found exactly where none starts.
 pub fn tokens_start()
@@ -17,4 +18,15 @@ pub fn fronts_are_tokens()
 pub fn texts_are_tokens()
     ensures tokens { LexedIsTokens }
     ensures fault { LexedStops }
+{}
+
+/// What is written of a node, a name, a number or a pattern is a token that reads back as it.
+pub fn spellings_read_back()
+    ensures nodes { NodesReadBack }
+    ensures bounded { NodesAreBounded }
+    ensures said { IrisSayThem }
+    ensures iris { IrisAreWords }
+    ensures names { NamesReadBack }
+    ensures blanks { BlanksReadBack }
+    ensures signs { SignsAreWords }
 {}
