@@ -1,21 +1,20 @@
 -- Names, texts between < and >, Blanks and signs as they are written, and that they read back.
-use Rattle.std.proofs.Common.{◌≡◌, ℕ, suc, ◌+◌, ◌<◌, ◌≤◌, Bool, true, false, cond, not, ◌&&◌, ◌==◌, nat_le, List, [], ◌∷◌, ◌++◌, length, length-append, refl, sym, ap, subst, ◌∙◌, arith}
-use Rattle.std.specs.Prelude.{Option, Some, None}
+use Rattle.std.proofs.Common.{◌≡◌, ℕ, suc, ◌<◌, ◌≤◌, Bool, true, false, cond, not, ◌&&◌, ◌==◌, nat_le, List, [], ◌∷◌, ◌++◌, length, length-append, refl, sym, ap, subst, ◌∙◌, arith}
+use Rattle.std.specs.Prelude.{Some, None}
 use Rattle.std.specs.List.{list_all, concat, AllByRecursion}
 use Rattle.std.proofs.lemmas.Bool.{eqb-true, eq-eqb, and_parts, leb-true, le-leb}
 use Rattle.std.proofs.lemmas.Grind.{common_steps}
 use Rattle.std.proofs.lemmas.List.{append-nil}
-use Rattle.dg_text.specs.declared.token.TokenKind.{TokenKind}
 use Rattle.dg_text.specs.declared.token.TokenKind.TheVariants as kinds
 use Rattle.dg_text.specs.Forms.{is_letter, is_word_byte, is_iri_byte, is_short, name_len}
-use Rattle.dg_text.specs.Language.{AreSome, IsNamePiece, IsName, IsBlank, HasForm}
+use Rattle.dg_text.specs.Language.{AreSome, IsNamePiece, IsName, IsBlank}
 use Rattle.dg_text.specs.Said.{blank_name}
 use Rattle.dg_text.specs.Tokens.{Tok}
 use Rattle.dg_text.specs.Words.{is_whole_name, predicate_meant}
-use Rattle.dg_text.specs.Written.{IsWord, word_said, tok_said}
-use Rattle.dg_text.specs.Spelling.{iri_word, name_word, at_word, blank_word, mark_word}
+use Rattle.dg_text.specs.Written.{word_said, tok_said}
+use Rattle.dg_text.specs.Spelling.{iri_word, name_word, blank_word}
 use Rattle.dg_text.specs.SpellingLaws.{NamesReadBack, NamesAreWhole, IrisSayTheirText, IrisAreWords, BlanksReadBack, BlankReadsBack, SignsAreWords}
-use Rattle.dg_text.proofs.Fronts.{Found, some_from, positive}
+use Rattle.dg_text.proofs.Fronts.{some_from, positive}
 use Rattle.dg_text.proofs.NameForm.{name_found, name_most}
 use Rattle.dg_text.proofs.NodeSpelling.{iri_said, iri_is_word, said_text, said_kind, reads_by}
 

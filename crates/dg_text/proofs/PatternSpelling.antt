@@ -1,17 +1,16 @@
 -- Patterns as they are written, and that they read back.
-use Rattle.std.proofs.Common.{◌≡◌, ℕ, suc, ◌-◌, Bool, true, false, cond, not, ◌||◌, ◌&&◌, ◌==◌, ◌⊎◌, inl, inr, List, [], ◌∷◌, ◌++◌, length, take, drop, append_assoc, refl, sym, ap, subst, ◌∙◌, arith}
-use Rattle.std.specs.Prelude.{Option, Some, None, is_some}
+use Rattle.std.proofs.Common.{◌≡◌, ℕ, ◌-◌, Bool, true, false, cond, ◌||◌, ◌==◌, ◌⊎◌, inl, inr, List, [], ◌∷◌, ◌++◌, length, take, drop, append_assoc, refl, sym, ap, subst, ◌∙◌, arith}
+use Rattle.std.specs.Prelude.{Option, Some, None}
 use Rattle.std.specs.List.{concat, AllByRecursion}
 use Rattle.std.specs.Str.{bytes_eq}
 use Rattle.std.proofs.Math.Seq.{take-append_seam, drop-append_seam}
 use Rattle.std.proofs.lemmas.Bool.{eqb-true, cases_Bool, not-true, or_parts, and_right}
 use Rattle.dg_text.specs.declared.token.TokenKind.TheVariants as kinds
 use Rattle.dg_text.specs.Language.{IsRegex, IsRegexPiece, is_regex_byte}
-use Rattle.dg_text.specs.Patterns.{begins_with, unslashed, without_i, between_slashes, regex_meant}
+use Rattle.dg_text.specs.Patterns.{begins_with, unslashed, regex_meant}
 use Rattle.dg_text.specs.Said.{before}
-use Rattle.dg_text.specs.Tokens.{Tok}
 use Rattle.dg_text.specs.Spelling.{slashed, flag_text, regex_word}
-use Rattle.dg_text.specs.SpellingLaws.{PatternsReadBack, PatternReadsBack}
+use Rattle.dg_text.specs.SpellingLaws.{PatternsReadBack}
 use Rattle.dg_text.proofs.Fronts.{long_by_one}
 use Rattle.dg_text.proofs.NodeSpelling.{said_text, said_kind, reads_by}
 
