@@ -1,4 +1,5 @@
--- Which definitions can be written in the schema language, that a schema's can be, and that what is printed reads back.
+-- Which definitions can be written in the schema language, what a schema keeps, that what is read can be written, and that
+-- what is printed reads back.
 use Rattle.std.specs.Prelude.{◌≡◌, ℕ, true, false, ◌==◌, length, List, Ok}
 use Rattle.std.specs.List.{list_all, AllByRecursion}
 use Rattle.dg_schema.specs.declared.definition.PredDef.{PredDef}
