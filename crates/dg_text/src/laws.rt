@@ -2,6 +2,7 @@
 ghost use Rattle.dg_text.specs.Laws.{FindsToken, FindsNone, FrontIsTokens, FrontReads, LexedIsTokens, LexedStops};
 ghost use Rattle.dg_text.specs.Written.{WordsAreRead};
 ghost use Rattle.dg_text.specs.Quoting.{QuotesAreWords, QuotesMeanTexts};
+ghost use Rattle.dg_text.specs.SpellingLaws.{NodesReadBack, NodesAreBounded, IrisSayThem, IrisAreWords, NamesReadBack, BlanksReadBack, SignsAreWords};
 
 /// The token that is found at the front of a text is the one that starts it, and none is found exactly where none starts.
 pub fn tokens_start()
@@ -30,4 +31,15 @@ pub fn words_are_read()
 pub fn quotes_read_back()
     ensures word { QuotesAreWords }
     ensures meant { QuotesMeanTexts }
+{}
+
+/// What is written of a node, a name, a number or a pattern is a token that reads back as it.
+pub fn spellings_read_back()
+    ensures nodes { NodesReadBack }
+    ensures bounded { NodesAreBounded }
+    ensures said { IrisSayThem }
+    ensures iris { IrisAreWords }
+    ensures names { NamesReadBack }
+    ensures blanks { BlanksReadBack }
+    ensures signs { SignsAreWords }
 {}
