@@ -4,3 +4,5 @@ pub mod Grammar
 pub mod Whole
 pub mod Plain
 pub mod Laws
+pub mod Texts
+pub mod Readable

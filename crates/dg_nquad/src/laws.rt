@@ -1,5 +1,6 @@
 // What the tokens of a text say, and that its statements stand one after the other.
 ghost use Rattle.dg_nquad.specs.Laws.{PlainIsListed, QuotedSays, StatementsAreListed};
+ghost use Rattle.dg_nquad.specs.Readable.{GroupsReadBack, MutationReadsBack, ReadStandAlone, ReadStands, StatementReadsBack, TokensAreFormed};
 
 /// Each Quoted of a text that is read stands between quotes, and each Blank has a name.
 pub fn tokens_say()
@@ -11,4 +12,14 @@ pub fn tokens_say()
 pub fn statements_are_listed()
     ensures read { StatementsAreListed }
     ensures plain { PlainIsListed }
+{}
+
+/// What is printed of statements reads back.
+pub fn statements_read_back()
+    ensures formed { TokensAreFormed }
+    ensures stands { ReadStands }
+    ensures stand_alone { ReadStandAlone }
+    ensures statement { StatementReadsBack }
+    ensures groups { GroupsReadBack }
+    ensures whole { MutationReadsBack }
 {}
