@@ -122,7 +122,7 @@ all_listed block (s ∷ all) a before ts end e stop =
 
 -- ---- groups
 
-group_is : (upsert delete : Bool) (before all : List Statement) (word opening closing : Tok) (inner rest : List Tok)
+pub group_is : (upsert delete : Bool) (before all : List Statement) (word opening closing : Tok) (inner rest : List Tok)
     → group_meant word ≡ Some delete → is_punct open_curly opening ≡ true → statements (record { delete = delete; upsert = upsert }) before inner ≡ Ok (all, closing ∷ rest) → is_punct close_curly closing ≡ true
     → group upsert before (word ∷ opening ∷ inner) ≡ Ok (all, rest)
 unfolding group
@@ -147,9 +147,11 @@ as_group s ts e =
     let p = parted b.rest (statements_words (s ∷ [])) (mark_word close_curly ∷ []) b.others in
     let c = first p.rest (mark_word close_curly) [] p.others in
     let end : p.rest ≡ c.tok ∷ [] = c.is ∙ ap (λ (l : List Tok). c.tok ∷ l) (none_left c.rest c.others) in
+    let last : b.rest ≡ p.front ++ c.tok ∷ [] = p.is ∙ ap (λ (l : List Tok). p.front ++ l) end in
+    let second : a.rest ≡ b.tok ∷ (p.front ++ c.tok ∷ []) = b.is ∙ ap (λ (l : List Tok). b.tok ∷ l) last in
     record {
       word = a.tok; opening = b.tok; inner = p.front; closing = c.tok;
-      is = a.is ∙ ap (λ (l : List Tok). a.tok ∷ l) (b.is ∙ ap (λ (l : List Tok). b.tok ∷ l) (p.is ∙ ap (λ (l : List Tok). p.front ++ l) end));
+      is = a.is ∙ ap (λ (l : List Tok). a.tok ∷ l) second;
       named = a.said; opened = b.said; said = p.said; closed = c.said;
     }
 
@@ -193,7 +195,7 @@ groups_listed upsert (s ∷ all) a before ts end e stop =
       more = groups_listed upsert all a.1 (before ++ s ∷ []) p.rest end p.others stop;
     }
 
-groups_is : (upsert : Bool) (all : List Statement) (opening closing : Tok) (inner rest : List Tok)
+pub groups_is : (upsert : Bool) (all : List Statement) (opening closing : Tok) (inner rest : List Tok)
     → is_punct open_curly opening ≡ true → repeated begins_group (group upsert) [] inner ≡ Ok (all, closing ∷ rest) → is_punct close_curly closing ≡ true → groups upsert (opening ∷ inner) ≡ Ok (all, rest)
 unfolding groups
 groups_is upsert all opening closing inner rest a b c = rw (a, b, c) refl
@@ -205,7 +207,8 @@ groups_read upsert all a ts rest e =
     let p = parted o.rest (flat_map alone_words all) (mark_word close_curly ∷ []) o.others in
     let c = first p.rest (mark_word close_curly) [] p.others in
     let end : p.rest ≡ c.tok ∷ [] = c.is ∙ ap (λ (l : List Tok). c.tok ∷ l) (none_left c.rest c.others) in
-    let is : ts ≡ o.tok ∷ (p.front ++ c.tok ∷ []) = o.is ∙ ap (λ (l : List Tok). o.tok ∷ l) (p.is ∙ ap (λ (l : List Tok). p.front ++ l) end) in
+    let last : o.rest ≡ p.front ++ c.tok ∷ [] = p.is ∙ ap (λ (l : List Tok). p.front ++ l) end in
+    let is : ts ≡ o.tok ∷ (p.front ++ c.tok ∷ []) = o.is ∙ ap (λ (l : List Tok). o.tok ∷ l) last in
     let inside : repeated begins_group (group upsert) [] (p.front ++ c.tok ∷ rest) ≡ Ok (all, c.tok ∷ rest) =
         listed_read begins_group (group upsert) [] all (c.tok ∷ rest) (p.front ++ c.tok ∷ rest) (groups_listed upsert all a [] p.front (c.tok ∷ rest) p.said (no_group c.tok rest c.said)) in
     ap (λ (l : List Tok). groups upsert (l ++ rest)) is

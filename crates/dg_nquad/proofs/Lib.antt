@@ -8,3 +8,4 @@ pub mod StatementWords
 pub mod Formed
 pub mod GroupsBack
 pub mod MutationBack
+pub mod GroupsListed

@@ -50,7 +50,7 @@ text_stands text all h = by (lexed text) refl h
 
 -- ---- and is read back
 
-body_is : (left : List Tok) → next (is_punct open_curly) left ≡ true → body left ≡ groups false left
+pub body_is : (left : List Tok) → next (is_punct open_curly) left ≡ true → body left ≡ groups false left
 unfolding body
 body_is left e = rw e refl
 

@@ -15,6 +15,6 @@ mod terms;
 mod words;
 
 pub use fault::NquadFault;
-pub use laws::{statements_are_listed, statements_read_back, tokens_say};
+pub use laws::{groups_are_listed, statements_are_listed, statements_read_back, tokens_say};
 pub use mutation::{Mutation, Node, Object, Statement};
 pub use reading::read_mutation;
