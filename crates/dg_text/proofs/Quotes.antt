@@ -1,6 +1,6 @@
 -- A text that is written as a Quoted token is read back.
 use Rattle.std.proofs.Common.{◌≡◌, ℕ, Bool, true, false, ◌==◌, inl, inr, List, [], ◌∷◌, ◌++◌, refl, sym, ap, subst, ◌∙◌}
-use Rattle.std.specs.Prelude.{map, flat_map, Option, Some, option_map}
+use Rattle.std.specs.Prelude.{map, flat_map, Some, option_map}
 use Rattle.std.specs.List.{concat, AllByRecursion}
 use Rattle.std.proofs.lemmas.Bool.{eqb-true}
 use Rattle.dg_text.specs.declared.token.TokenKind.{TokenKind}
@@ -8,8 +8,6 @@ use Rattle.dg_text.specs.declared.token.TokenKind.TheVariants as kinds
 use Rattle.dg_text.specs.Escapes.{says, unescaped}
 use Rattle.dg_text.specs.Language.{IsQuotedPiece, is_quoted_byte}
 use Rattle.dg_text.specs.Said.{quoted_meant}
-use Rattle.dg_text.specs.Tokens.{Tok}
-use Rattle.dg_text.specs.Written.{tok_said, word_said}
 use Rattle.dg_text.specs.Quoting.{quoted_byte, quoted_word, QuotesAreWords, QuotesMeanTexts}
 use Rattle.dg_text.proofs.Cuts.{before_at}
 
