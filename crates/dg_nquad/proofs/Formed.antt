@@ -12,28 +12,9 @@ use Rattle.dg_text.specs.Written.{IsWord}
 use Rattle.dg_text.specs.declared.token.Token.{Token}
 use Rattle.dg_text.specs.declared.token.TokenKind.{TokenKind}
 use Rattle.dg_text.specs.declared.token.TokenKind.TheVariants as kinds
-use Rattle.dg_text.proofs.Fronts.{positive}
-use Rattle.dg_text.proofs.NameForm.{name_found, name_most}
+use Rattle.dg_text.proofs.NameSpelling.{names_are_whole}
 use Rattle.dg_nquad.specs.Readable.{IsFormed, TokensAreFormed}
 use Rattle.dg_nquad.proofs.TokensSay.{all_tokens}
-
-some_bytes : (text : List ℕ) → IsName text → 0 < length text
-some_bytes text n = subst (λ (t : List ℕ). 0 < length t) (sym n.is) (omega arith)
-
--- a Name is as long as is counted of it
-counted : (text : List ℕ) → IsName text → name_len text ≡ length text
-counted text n =
-    let most : length text ≤ name_len text = subst (λ (t : List ℕ). length text ≤ name_len t) (append-nil text) (name_most text [] n) in
-    let some : 0 < name_len text = omega (arith, most, some_bytes text n) in
-    let found = name_found text some in
-    omega (arith, most, found.len, ap length found.split, length-append found.front found.rest)
-
-whole : (text : List ℕ) → IsWord (kinds.Name, text) → is_whole_name text ≡ true
-whole text w =
-    let long : name_len text ≡ length text = counted text w.form in
-    let some : (length text == 0) ≡ false = positive (length text) (some_bytes text w.form) in
-    let short : nat_le (length text) 64 ≡ true = w.short in
-    rw (long, some, eq-eqb (length text) (length text) refl, short) refl
 
 token_formed : (text : List ℕ) (t : Token) → IsWord (t.kind, slice_range text t.start t.end) → IsFormed (tok_of text t)
 token_formed text t w = by t.kind w
@@ -45,7 +26,7 @@ token_formed text t w = by t.kind w
     other u h = record { name = h.0; blank = h.1 }
 
     by : (kind : TokenKind) → IsWord (kind, slice_range text t.start t.end) → IsFormed (tok_of text (record t { kind = kind }))
-    by kinds.Name w = record { name = λ h. whole (slice_range text t.start t.end) w; blank = λ h. absurd (false≢true h) }
+    by kinds.Name w = record { name = λ h. names_are_whole (slice_range text t.start t.end) w.form w.short; blank = λ h. absurd (false≢true h) }
     by kinds.Blank w = record { name = λ h. absurd (false≢true h); blank = λ h. w }
     by kinds.Int w = other (tok_of text (record t { kind = kinds.Int })) neither
     by kinds.Uid w = other (tok_of text (record t { kind = kinds.Uid })) neither

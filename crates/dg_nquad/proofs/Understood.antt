@@ -11,7 +11,7 @@ use Rattle.dg_text.specs.Tokens.{Tok, is_iri, is_punct, is_word, is_quoted, is_c
 use Rattle.dg_text.specs.Words.{is_whole_name, name_meant, predicate_meant}
 use Rattle.dg_text.specs.declared.token.TokenKind.{TokenKind}
 use Rattle.dg_text.proofs.NodeSpelling.{nodes_read_back}
-use Rattle.dg_text.proofs.NameSpelling.{iris_say_them, names_read_back}
+use Rattle.dg_text.proofs.NameSpelling.{iris_say_their_text, names_read_back}
 use Rattle.dg_text.proofs.Quotes.{quotes_mean_texts}
 use Rattle.dg_text.specs.Written.{Word, word_said, tok_said}
 use Rattle.dg_text.specs.Spelling.{iri_uid_word, iri_word, blank_word, name_word, mark_word, caret_word}
@@ -149,7 +149,7 @@ node_object_read block n starts more rest is q =
 
 -- the kind that is read of its type
 kind_read : (starts : List ℕ) (kind : Kind) → IsTyped kind → kind_meant (tok_at starts (iri_word (type_of_kind kind))) ≡ Some kind
-kind_read starts kind typed = ap (λ (name : List ℕ). option_and_then kind_of_type (type_name name)) (ap (λ (s : Said). s.1) (iris_say_them (type_of_kind kind))) ∙ typed
+kind_read starts kind typed = ap (λ (name : List ℕ). option_and_then kind_of_type (type_name name)) (ap (λ (s : Said). s.1) (iris_say_their_text (type_of_kind kind))) ∙ typed
 
 tag_is : (left mid after : List Tok) (kind : Kind) → skip is_caret left ≡ Ok (tt, mid) → one_as kind_meant mid ≡ Ok (kind, after) → type_tag left ≡ Ok (Some kind, after)
 unfolding type_tag

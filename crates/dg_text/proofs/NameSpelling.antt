@@ -1,28 +1,27 @@
 -- Names, texts between < and >, Blanks and signs as they are written, and that they read back.
-use Rattle.std.proofs.Common.{◌≡◌, ℕ, suc, ◌+◌, ◌<◌, ◌≤◌, Bool, true, false, cond, not, ◌&&◌, ◌==◌, nat_le, List, [], ◌∷◌, ◌++◌, length, length-append, refl, sym, ap, subst, ◌∙◌, arith}
-use Rattle.std.specs.Prelude.{Option, Some, None}
+use Rattle.std.proofs.Common.{◌≡◌, ℕ, suc, ◌<◌, ◌≤◌, Bool, true, false, cond, not, ◌&&◌, ◌==◌, nat_le, List, [], ◌∷◌, ◌++◌, length, length-append, refl, sym, ap, subst, ◌∙◌, arith}
+use Rattle.std.specs.Prelude.{Some, None}
 use Rattle.std.specs.List.{list_all, concat, AllByRecursion}
-use Rattle.std.proofs.lemmas.Bool.{eqb-true, and_parts, leb-true, le-leb}
+use Rattle.std.proofs.lemmas.Bool.{eqb-true, eq-eqb, and_parts, leb-true, le-leb}
 use Rattle.std.proofs.lemmas.Grind.{common_steps}
 use Rattle.std.proofs.lemmas.List.{append-nil}
-use Rattle.dg_text.specs.declared.token.TokenKind.{TokenKind}
 use Rattle.dg_text.specs.declared.token.TokenKind.TheVariants as kinds
 use Rattle.dg_text.specs.Forms.{is_letter, is_word_byte, is_iri_byte, is_short, name_len}
-use Rattle.dg_text.specs.Language.{AreSome, IsNamePiece, IsName, IsBlank, HasForm}
+use Rattle.dg_text.specs.Language.{AreSome, IsNamePiece, IsName, IsBlank}
 use Rattle.dg_text.specs.Said.{blank_name}
 use Rattle.dg_text.specs.Tokens.{Tok}
 use Rattle.dg_text.specs.Words.{is_whole_name, predicate_meant}
-use Rattle.dg_text.specs.Written.{IsWord, word_said, tok_said}
-use Rattle.dg_text.specs.Spelling.{iri_word, name_word, at_word, blank_word, mark_word}
-use Rattle.dg_text.specs.SpellingLaws.{NamesReadBack, IrisSayThem, IrisAreWords, BlanksReadBack, BlankReadsBack, SignsAreWords}
-use Rattle.dg_text.proofs.Fronts.{Found, some_from}
-use Rattle.dg_text.proofs.NameForm.{name_found}
+use Rattle.dg_text.specs.Written.{word_said, tok_said}
+use Rattle.dg_text.specs.Spelling.{iri_word, name_word, blank_word}
+use Rattle.dg_text.specs.SpellingLaws.{NamesReadBack, NamesAreWhole, IrisSayTheirText, IrisAreWords, BlanksReadBack, BlankReadsBack, SignsAreWords}
+use Rattle.dg_text.proofs.Fronts.{some_from, positive}
+use Rattle.dg_text.proofs.NameForm.{name_found, name_most}
 use Rattle.dg_text.proofs.NodeSpelling.{iri_said, iri_is_word, said_text, said_kind, reads_by}
 
 -- ---- texts between < and >
 
-pub iris_say_them : IrisSayThem
-iris_say_them = iri_said
+pub iris_say_their_text : IrisSayTheirText
+iris_say_their_text = iri_said
 
 pub iris_are_words : IrisAreWords
 iris_are_words = iri_is_word
@@ -55,6 +54,25 @@ whole_is name h =
     let parts = whole_parts name h in
     let f = name_found name parts.0 in
     record { form = subst IsName (all_of_it name f.front f.rest f.split (f.len ∙ parts.1)) f.form; short = omega (arith, parts.1, parts.2) }
+
+-- no Name is longer than its text
+most_of_it : (text front rest : List ℕ) (n : ℕ) → text ≡ front ++ rest → length front ≡ n → n ≤ length text
+most_of_it text front rest n split len = omega (arith, len, ap length split, length-append front rest)
+
+name_length : (text : List ℕ) → IsName text → name_len text ≡ length text
+name_length text n =
+    let least : length text ≤ name_len text = subst (λ (t : List ℕ). length text ≤ name_len t) (append-nil text) (name_most text [] n) in
+    let f = name_found text (omega (arith, least, first_some text n)) in
+    omega (arith, least, most_of_it text f.front f.rest (name_len text) f.split f.len)
+  where
+    first_some : (text : List ℕ) → IsName text → 0 < length text
+    first_some text n = subst (λ (t : List ℕ). 0 < length t) (sym n.is) (omega arith)
+
+pub names_are_whole : NamesAreWhole
+names_are_whole text n short =
+    let e : name_len text ≡ length text = name_length text n in
+    let some : (length text == 0) ≡ false = positive (length text) (omega (arith, ap length n.is)) in
+    rw (e, some, eq-eqb (length text) (length text) refl, short) refl
 
 iri_letter : (b : ℕ) → is_letter b ≡ true → is_iri_byte b ≡ true
 iri_letter b h = grind (arith, common_steps)

@@ -1,11 +1,11 @@
 -- Nodes as they are written, and that they read back.
-use Rattle.std.proofs.Common.{◌≡◌, ℕ, zero, suc, ◌+◌, ◌-◌, ◌*◌, ◌/◌, ◌%◌, ◌^◌, ◌<◌, ◌≤◌, Bool, true, false, cond, not, ◌&&◌, ◌==◌, nat_lt, nat_le, List, [], ◌∷◌, ◌++◌, length, refl, sym, ap, subst, ◌∙◌, arith}
+use Rattle.std.proofs.Common.{◌≡◌, ℕ, zero, suc, ◌+◌, ◌-◌, ◌/◌, ◌%◌, ◌^◌, ◌<◌, ◌≤◌, Bool, true, false, cond, ◌&&◌, ◌==◌, nat_lt, nat_le, List, [], ◌∷◌, ◌++◌, length, refl, sym, ap, subst, ◌∙◌, arith}
 use Rattle.std.specs.Prelude.{Option, Some, None, option_and_then, codes, take}
 use Rattle.std.specs.List.{list_all}
 use Rattle.std.specs.Char.{digit_value, is_ascii_hexdigit}
 use Rattle.std.specs.Fmt.{digits, digits_onto, digit_glyph}
 use Rattle.std.specs.Str.Parse.{AllDigits, digits_value}
-use Rattle.std.proofs.lemmas.Bool.{eqb-true, and_parts, agree_below_at, lt-ltb, le-leb, ltb-true, leb-true, true≢false}
+use Rattle.std.proofs.lemmas.Bool.{eqb-true, and_parts, lt-ltb, le-leb, ltb-true, leb-true}
 use Rattle.std.proofs.lemmas.Grind.{common_steps}
 use Rattle.std.proofs.lemmas.Fmt.{digits_is_IsNumeral}
 use Rattle.std.proofs.Math.Nat.{pow-suc}
@@ -13,12 +13,12 @@ use Rattle.std.proofs.Math.Seq.{take-append_seam}
 use Rattle.dg_text.specs.declared.token.TokenKind.{TokenKind}
 use Rattle.dg_text.specs.declared.token.TokenKind.TheVariants as kinds
 use Rattle.dg_text.specs.Forms.{is_iri_byte}
-use Rattle.dg_text.specs.Language.{AreSome, IsUid, IsIri}
+use Rattle.dg_text.specs.Language.{AreSome}
 use Rattle.dg_text.specs.Said.{uid_of, uid_said, uid_meant, behind}
 use Rattle.dg_text.specs.Tokens.{Tok}
 use Rattle.dg_text.specs.Written.{Word, IsWord, word_said, tok_said}
 use Rattle.dg_text.specs.Spelling.{uid_text, uid_word, iri_word, iri_uid_word}
-use Rattle.dg_text.specs.SpellingLaws.{NodeReadsBack, NodesReadBack, NodesAreBounded}
+use Rattle.dg_text.specs.SpellingLaws.{NodesReadBack, NodesAreBounded}
 use Rattle.dg_text.proofs.Fronts.{some_from, long_by_one}
 use Rattle.dg_text.proofs.UidLemmas.{all_hex, hex_small}
 

@@ -40,8 +40,8 @@ NodesAreBounded = (text : List ℕ) (n : ℕ) → uid_said text ≡ Some n → (
 -- ---- names
 
 -- the characters of a written Iri are those between < and >
-abbrev pub IrisSayThem : Type 0
-IrisSayThem = (text : List ℕ) → word_said (iri_word text) ≡ (kinds.Iri, text)
+abbrev pub IrisSayTheirText : Type 0
+IrisSayTheirText = (text : List ℕ) → word_said (iri_word text) ≡ (kinds.Iri, text)
 
 -- bytes of an Iri are a word between < and >
 abbrev pub IrisAreWords : Type 0
@@ -58,6 +58,10 @@ pub record NameReadsBack (name : List ℕ) : Type 0 where
 -- each whole name reads back
 abbrev pub NamesReadBack : Type 0
 NamesReadBack = (name : List ℕ) → IsTrue (is_whole_name name) → NameReadsBack name
+
+-- the characters of each Name that isn't too long are a whole name
+abbrev pub NamesAreWhole : Type 0
+NamesAreWhole = (text : List ℕ) → HasForm kinds.Name text → IsTrue (is_short kinds.Name (length text)) → IsTrue (is_whole_name text)
 
 -- the name that the characters of a token give a Blank
 abbrev pub blank_said : Tok → Option (List ℕ)

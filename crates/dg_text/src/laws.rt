@@ -1,8 +1,8 @@
-// What the tokens of a text are.
+// What the tokens of a text are, and that what is written as tokens reads back.
 ghost use Rattle.dg_text.specs.Laws.{FindsToken, FindsNone, FrontIsTokens, FrontReads, LexedIsTokens, LexedStops};
 ghost use Rattle.dg_text.specs.Written.{WordsAreRead};
 ghost use Rattle.dg_text.specs.Quoting.{QuotesAreWords, QuotesMeanTexts};
-ghost use Rattle.dg_text.specs.SpellingLaws.{NodesReadBack, NodesAreBounded, IrisSayThem, IrisAreWords, NamesReadBack, BlanksReadBack, SignsAreWords};
+ghost use Rattle.dg_text.specs.SpellingLaws.{NodesReadBack, NodesAreBounded, IrisSayTheirText, IrisAreWords, NamesReadBack, NamesAreWhole, BlanksReadBack, SignsAreWords, NumbersReadBack, NumbersAreBounded, PatternsReadBack};
 
 /// The token that is found at the front of a text is the one that starts it, and none is found exactly where none starts.
 pub fn tokens_start()
@@ -37,9 +37,13 @@ pub fn quotes_read_back()
 pub fn spellings_read_back()
     ensures nodes { NodesReadBack }
     ensures bounded { NodesAreBounded }
-    ensures said { IrisSayThem }
+    ensures said { IrisSayTheirText }
     ensures iris { IrisAreWords }
     ensures names { NamesReadBack }
+    ensures whole { NamesAreWhole }
     ensures blanks { BlanksReadBack }
     ensures signs { SignsAreWords }
+    ensures numbers { NumbersReadBack }
+    ensures within { NumbersAreBounded }
+    ensures patterns { PatternsReadBack }
 {}
