@@ -220,3 +220,18 @@ pub opens_next : (ts : List Tok) (all : List Statement) → Say ts (groups_words
 opens_next ts all e =
     let o = first ts (mark_word open_curly) (flat_map alone_words all ++ mark_word close_curly ∷ []) e in
     ap (λ (l : List Tok). next (is_punct open_curly) l) o.is ∙ opens o.tok o.said
+
+-- those of statements alone do not
+pub opens_none : (ts : List Tok) (all : List Statement) → Say ts (statements_words all) → next (is_punct open_curly) ts ≡ false
+opens_none ts [] e = ap (λ (l : List Tok). next (is_punct open_curly) l) (none_left ts e)
+opens_none ts (s ∷ all) e =
+    let p = parted ts (statement_words s) (statements_words all) e in
+    ap (λ (l : List Tok). next (is_punct open_curly) l) p.is ∙ by s.s p.front p.said
+  where
+    by : (n : Node) (front : List Tok) → Say front (node_words n ++ (iri_word s.p ∷ (object_words s.o ++ mark_word 46 ∷ []))) → next (is_punct open_curly) (front ++ (parted ts (statement_words s) (statements_words all) e).rest) ≡ false
+    by (nodes.Uid n) [] f = absurd (cc)
+    by (nodes.Blank name) [] f = absurd (cc)
+    by (nodes.Var name) [] f = absurd (cc)
+    by (nodes.Uid n) (t ∷ front) f = ap (λ (s : Said). is_punct open_curly (kind_tok t s)) (ap (first_or (tok_said t)) f)
+    by (nodes.Blank name) (t ∷ front) f = ap (λ (s : Said). is_punct open_curly (kind_tok t s)) (ap (first_or (tok_said t)) f)
+    by (nodes.Var name) (t ∷ front) f = ap (λ (s : Said). is_punct open_curly (kind_tok t s)) (ap (first_or (tok_said t)) f)

@@ -9,3 +9,4 @@ pub mod Formed
 pub mod GroupsBack
 pub mod MutationBack
 pub mod GroupsListed
+pub mod Printed

@@ -3,26 +3,27 @@ use Rattle.std.proofs.Common.{◌≡◌, ◌<◌, ℕ, ◌==◌, Bool, true, fal
 use Rattle.std.specs.Prelude.{Result, Ok, Err, IfOk, map, flat_map, if◌then◌else◌}
 use Rattle.std.specs.List.{AllByRecursion}
 use Rattle.dg_text.specs.Lexing.{lexed}
+use Rattle.dg_text.specs.Listed.{AreListed}
 use Rattle.dg_text.specs.Marks.{open_curly, close_curly}
 use Rattle.dg_text.specs.Places.{offset_of}
 use Rattle.dg_text.specs.Reading.{Read, next}
 use Rattle.dg_text.specs.Spelling.{mark_word}
 use Rattle.dg_text.specs.Tokens.{Tok, toks_of, is_punct}
-use Rattle.dg_text.specs.Written.{word_said, tok_said}
+use Rattle.dg_text.specs.Written.{written}
 use Rattle.dg_text.specs.declared.token.Token.{Token}
 use Rattle.dg_text.proofs.WrittenWords.{words_read}
 use Rattle.dg_nquad.specs.declared.fault.NquadFault.{NquadFault}
 use Rattle.dg_nquad.specs.declared.fault.NquadFault.TheVariants as faults
 use Rattle.dg_nquad.specs.declared.mutation.Statement.{Statement}
-use Rattle.dg_nquad.specs.Grammar.{body, groups, statements, plain_set}
-use Rattle.dg_nquad.specs.Readable.{StandsAlone, AreFormed}
-use Rattle.dg_nquad.specs.Texts.{alone_words, groups_words, mutation_text}
+use Rattle.dg_nquad.specs.Grammar.{body, groups, statement, statements, begins_statement, plain_set}
+use Rattle.dg_nquad.specs.Readable.{Stands, AreFormed}
+use Rattle.dg_nquad.specs.Texts.{groups_words, mutation_text, statements_words}
 use Rattle.dg_nquad.specs.Whole.{outcome, by_tokens, mutation}
 use Rattle.dg_nquad.proofs.Formed.{tokens_formed}
-use Rattle.dg_nquad.proofs.GroupsBack.{groups_read, opens_next}
-use Rattle.dg_nquad.proofs.PlainListed.{whole_of}
+use Rattle.dg_nquad.proofs.GroupsBack.{all_listed, groups_read, opens_next, opens_none}
+use Rattle.dg_nquad.proofs.PlainListed.{plain_listed, whole_of}
 use Rattle.dg_nquad.proofs.Standing.{Makes, AllStand, groups_made, statements_stand}
-use Rattle.dg_nquad.proofs.StatementWords.{groups_are}
+use Rattle.dg_nquad.proofs.StatementWords.{groups_are, statements_are}
 
 -- ---- what a text says can be written
 
@@ -66,3 +67,12 @@ stands_back all a =
 
 pub mutation_back : (text : List ℕ) (all : List Statement) → mutation text ≡ Ok all → mutation (mutation_text all) ≡ Ok all
 mutation_back text all h = stands_back all (text_stands text all h)
+
+-- without groups
+pub plain_back : (all : List Statement) → AllByRecursion (Stands plain_set) all → mutation (written (statements_words all)) ≡ Ok all
+plain_back all a =
+    let text : List ℕ = written (statements_words all) in
+    let w = words_read (statements_words all) (statements_are plain_set all a) in
+    let ts : List Tok = toks_of text w.0 in
+    let listed : AreListed begins_statement (statement plain_set) [] all [] ts = subst (λ (l : List Tok). AreListed begins_statement (statement plain_set) [] all [] l) (append-nil ts) (all_listed plain_set all a [] ts [] w.1.1 refl) in
+    (plain_listed text w.0 all w.1.0 (opens_none ts all w.1.1)).1 listed

@@ -96,6 +96,10 @@ statement_are block s q =
     both (node_words s.s) (iri_word s.p ∷ (object_words s.o ++ mark_word 46 ∷ [])) (node_are block s.s q.subject)
     ((names_read_back s.p q.predicate).iri, both (object_words s.o) (mark_word 46 ∷ []) (object_are block s.o q.object) (dot_is, tt))
 
+pub statements_are : (block : Block) (all : List Statement) → AllByRecursion (Stands block) all → AreWords (statements_words all)
+statements_are block [] a = tt
+statements_are block (s ∷ all) a = both (statement_words s) (statements_words all) (statement_are block s a.0) (statements_are block all a.1)
+
 -- ---- groups
 
 alone_are : (upsert : Bool) (s : Statement) → StandsAlone upsert s → AreWords (alone_words s)

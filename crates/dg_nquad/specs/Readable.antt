@@ -8,7 +8,7 @@ use Rattle.dg_text.specs.Tokens.{Tok, toks_of, is_name, is_blank}
 use Rattle.dg_text.specs.Words.{is_whole_name}
 use Rattle.dg_text.specs.declared.token.Token.{Token}
 use Rattle.dg_text.specs.declared.token.TokenKind.TheVariants as kinds
-use Rattle.dg_text.specs.Written.{IsWord, word_said, tok_said}
+use Rattle.dg_text.specs.Written.{IsWord, written, word_said, tok_said}
 use Rattle.dg_text.specs.Spelling.{blank_word}
 use Rattle.dg_nquad.specs.declared.block.Block.{Block}
 use Rattle.dg_nquad.specs.declared.mutation.Node.{Node}
@@ -16,8 +16,8 @@ use Rattle.dg_nquad.specs.declared.mutation.Node.TheVariants as nodes
 use Rattle.dg_nquad.specs.declared.mutation.Object.{Object}
 use Rattle.dg_nquad.specs.declared.mutation.Object.TheVariants as objects
 use Rattle.dg_nquad.specs.declared.mutation.Statement.{Statement}
-use Rattle.dg_nquad.specs.Grammar.{statement, groups}
-use Rattle.dg_nquad.specs.Texts.{type_of_kind, statement_words, groups_words, mutation_text}
+use Rattle.dg_nquad.specs.Grammar.{statement, groups, plain_set}
+use Rattle.dg_nquad.specs.Texts.{type_of_kind, statement_words, statements_words, groups_words, mutation_text}
 use Rattle.dg_nquad.specs.Whole.{mutation}
 use Rattle.dg_nquad.specs.Words.{kind_of_type, type_name}
 
@@ -87,6 +87,10 @@ StatementReadsBack = (block : Block) (s : Statement) → Stands block s → AllB
 -- so with statements in groups
 abbrev pub GroupsReadBack : Type 0
 GroupsReadBack = (upsert : Bool) (all : List Statement) → AllByRecursion (StandsAlone upsert) all → AllByRecursion IsWord (groups_words all) × ((ts rest : List Tok) → map tok_said ts ≡ map word_said (groups_words all) → groups upsert (ts ++ rest) ≡ Ok (all, rest))
+
+-- statements that can stand in a text without groups read back without groups too
+abbrev pub PlainReadsBack : Type 0
+PlainReadsBack = (all : List Statement) → AllByRecursion (Stands plain_set) all → mutation (written (statements_words all)) ≡ Ok all
 
 -- the printed text of what a text says says the same
 abbrev pub MutationReadsBack : Type 0

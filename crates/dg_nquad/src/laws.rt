@@ -1,6 +1,6 @@
 // What the tokens of a text say, and that its statements stand one after the other.
 ghost use Rattle.dg_nquad.specs.Laws.{GroupedIsListed, GroupsAreListed, PlainIsListed, QuotedSays, StatementsAreListed};
-ghost use Rattle.dg_nquad.specs.Readable.{GroupsReadBack, MutationReadsBack, ReadStandAlone, ReadStands, StatementReadsBack, TokensAreFormed};
+ghost use Rattle.dg_nquad.specs.Readable.{GroupsReadBack, MutationReadsBack, PlainReadsBack, ReadStandAlone, ReadStands, StatementReadsBack, TokensAreFormed};
 
 /// Each Quoted of a text that is read stands between quotes, and each Blank has a name.
 pub fn tokens_say()
@@ -28,5 +28,6 @@ pub fn statements_read_back()
     ensures stand_alone { ReadStandAlone }
     ensures statement { StatementReadsBack }
     ensures groups { GroupsReadBack }
+    ensures plain { PlainReadsBack }
     ensures whole { MutationReadsBack }
 {}

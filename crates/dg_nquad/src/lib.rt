@@ -10,6 +10,7 @@ mod fault;
 pub mod grammar;
 mod laws;
 mod mutation;
+pub mod printing;
 mod reading;
 mod terms;
 mod words;
