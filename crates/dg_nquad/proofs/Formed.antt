@@ -1,12 +1,8 @@
 -- The tokens of a text have their forms.
-use Rattle.std.proofs.Common.{◌≡◌, ℕ, ◌+◌, ◌≤◌, ◌<◌, ◌==◌, true, false, Bool, List, [], ◌∷◌, ◌++◌, length, length-append, append-nil, refl, sym, subst, ap, arith}
-use Rattle.std.specs.Prelude.{IsTrue, Ok, nat_le}
+use Rattle.std.proofs.Common.{◌≡◌, ℕ, true, false, List}
 use Rattle.std.specs.List.{slice_range}
-use Rattle.std.proofs.lemmas.Bool.{eq-eqb, false≢true}
-use Rattle.dg_text.specs.Forms.{name_len}
-use Rattle.dg_text.specs.Language.{IsName, HasForm}
-use Rattle.dg_text.specs.Lexing.{lexed}
-use Rattle.dg_text.specs.Tokens.{Tok, tok_of, toks_of, is_name, is_blank}
+use Rattle.std.proofs.lemmas.Bool.{false≢true}
+use Rattle.dg_text.specs.Tokens.{Tok, tok_of, is_name, is_blank}
 use Rattle.dg_text.specs.Words.{is_whole_name}
 use Rattle.dg_text.specs.Written.{IsWord}
 use Rattle.dg_text.specs.declared.token.Token.{Token}

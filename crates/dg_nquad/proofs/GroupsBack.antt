@@ -1,5 +1,5 @@
 -- Tokens that say the words of statements in groups are read as these statements.
-use Rattle.std.proofs.Common.{◌≡◌, ℕ, ◌<◌, Bool, true, false, List, [], ◌∷◌, ◌++◌, Some, Ok, length, append_assoc, append-nil, refl, sym, ap, ◌∙◌, subst, arith}
+use Rattle.std.proofs.Common.{◌≡◌, ℕ, ◌<◌, Bool, true, false, List, [], ◌∷◌, ◌++◌, Some, Ok, length, append_assoc, refl, ap, ◌∙◌, arith}
 use Rattle.std.specs.Prelude.{map, flat_map, is_some}
 use Rattle.std.specs.List.{AllByRecursion}
 use Rattle.dg_text.specs.Marks.{open_curly, close_curly}
@@ -65,7 +65,6 @@ record First (ts : List Tok) (w : Word) (ws : List Word) : Type 0 where
 first : (ts : List Tok) (w : Word) (ws : List Word) → Say ts (w ∷ ws) → First ts w ws
 first [] w ws e = absurd (cc)
 first (t ∷ ts) w ws e = record { tok = t; rest = ts; is = refl; said = ap (first_or (tok_said t)) e; others = ap more_of e }
-
 
 none_left : (ts : List Tok) → Say ts [] → ts ≡ []
 none_left [] e = refl
@@ -150,9 +149,15 @@ as_group s ts e =
     let last : b.rest ≡ p.front ++ c.tok ∷ [] = p.is ∙ ap (λ (l : List Tok). p.front ++ l) end in
     let second : a.rest ≡ b.tok ∷ (p.front ++ c.tok ∷ []) = b.is ∙ ap (λ (l : List Tok). b.tok ∷ l) last in
     record {
-      word = a.tok; opening = b.tok; inner = p.front; closing = c.tok;
+      word = a.tok;
+      opening = b.tok;
+      inner = p.front;
+      closing = c.tok;
       is = a.is ∙ ap (λ (l : List Tok). a.tok ∷ l) second;
-      named = a.said; opened = b.said; said = p.said; closed = c.said;
+      named = a.said;
+      opened = b.said;
+      said = p.said;
+      closed = c.said;
     }
 
 seam : (inner : List Tok) (closing : Tok) (rest : List Tok) → (inner ++ closing ∷ []) ++ rest ≡ inner ++ closing ∷ rest
@@ -164,11 +169,11 @@ alone_read upsert s q before ts rest e =
     let g = as_group s ts e in
     let block : Block = record { delete = s.delete; upsert = upsert } in
     let inside : statements block before (g.inner ++ g.closing ∷ rest) ≡ Ok (before ++ s ∷ [], g.closing ∷ rest) =
-        (statements_listed block before (s ∷ []) (g.inner ++ g.closing ∷ rest) (g.closing ∷ rest)).1 (all_listed block (s ∷ []) (q, tt) before g.inner (g.closing ∷ rest) g.said (no_statement g.closing rest g.closed)) in
+    (statements_listed block before (s ∷ []) (g.inner ++ g.closing ∷ rest) (g.closing ∷ rest)).1 (all_listed block (s ∷ []) (q, tt) before g.inner (g.closing ∷ rest) g.said (no_statement g.closing rest g.closed)) in
     ap (λ (l : List Tok). group upsert before (l ++ rest)) g.is
     ∙ ap (λ (l : List Tok). group upsert before (g.word ∷ g.opening ∷ l)) (seam g.inner g.closing rest)
     ∙ group_is upsert s.delete before (before ++ s ∷ []) g.word g.opening g.closing (g.inner ++ g.closing ∷ rest) rest
-        (says_group s.delete g.word g.named) (opens g.opening g.opened) inside (closes g.closing g.closed)
+    (says_group s.delete g.word g.named) (opens g.opening g.opened) inside (closes g.closing g.closed)
 
 -- and begin one
 alone_begins : (s : Statement) (ts rest : List Tok) → Say ts (alone_words s) → begins_group (ts ++ rest) ≡ true
@@ -210,7 +215,7 @@ groups_read upsert all a ts rest e =
     let last : o.rest ≡ p.front ++ c.tok ∷ [] = p.is ∙ ap (λ (l : List Tok). p.front ++ l) end in
     let is : ts ≡ o.tok ∷ (p.front ++ c.tok ∷ []) = o.is ∙ ap (λ (l : List Tok). o.tok ∷ l) last in
     let inside : repeated begins_group (group upsert) [] (p.front ++ c.tok ∷ rest) ≡ Ok (all, c.tok ∷ rest) =
-        listed_read begins_group (group upsert) [] all (c.tok ∷ rest) (p.front ++ c.tok ∷ rest) (groups_listed upsert all a [] p.front (c.tok ∷ rest) p.said (no_group c.tok rest c.said)) in
+    listed_read begins_group (group upsert) [] all (c.tok ∷ rest) (p.front ++ c.tok ∷ rest) (groups_listed upsert all a [] p.front (c.tok ∷ rest) p.said (no_group c.tok rest c.said)) in
     ap (λ (l : List Tok). groups upsert (l ++ rest)) is
     ∙ ap (λ (l : List Tok). groups upsert (o.tok ∷ l)) (seam p.front c.tok rest)
     ∙ groups_is upsert all o.tok c.tok (p.front ++ c.tok ∷ rest) rest (opens o.tok o.said) inside (closes c.tok c.said)

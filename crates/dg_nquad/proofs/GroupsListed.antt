@@ -11,7 +11,7 @@ use Rattle.dg_text.specs.declared.token.Token.{Token}
 use Rattle.dg_text.proofs.Listing.{listed}
 use Rattle.dg_nquad.specs.declared.block.Block.{Block}
 use Rattle.dg_nquad.specs.declared.mutation.Statement.{Statement}
-use Rattle.dg_nquad.specs.Grammar.{statement, statements, group, groups, body, begins_statement, begins_group}
+use Rattle.dg_nquad.specs.Grammar.{statement, statements, group, groups, begins_statement, begins_group}
 use Rattle.dg_nquad.specs.Grouped.{HasGroup, AreGrouped, IsGrouped}
 use Rattle.dg_nquad.specs.Whole.{outcome, by_tokens, mutation}
 use Rattle.dg_nquad.specs.Words.{group_meant}
@@ -80,8 +80,18 @@ group_inside upsert delete before x y word opening closing left inner rest is na
       all = found.all;
       is = sym same ∙ found.is;
       group = record {
-        delete = delete; word = word; opening = opening; inner = inner; closing = closing; rest = rest;
-        is = is; named = named; opens = opens; listed = found.are; closes = closes; more = refl;
+        delete = delete;
+        word = word;
+        opening = opening;
+        inner = inner;
+        closing = closing;
+        rest = rest;
+        is = is;
+        named = named;
+        opens = opens;
+        listed = found.are;
+        closes = closes;
+        more = refl;
       };
     }
 
@@ -97,9 +107,9 @@ group_read upsert before x left rest e =
     let closing = skipped (is_punct close_curly) c.left d.left d.x d.first in
     let behind : d.left ≡ rest = ap (left_or d.left) d.then_is in
     let read : statements (record { delete = a.x; upsert = upsert }) before b.left ≡ Ok (c.x, closing.tok ∷ rest) =
-        c.first ∙ ap (λ (l : List Tok). Ok (c.x, l)) (closing.is ∙ ap (λ (l : List Tok). closing.tok ∷ l) behind) in
+    c.first ∙ ap (λ (l : List Tok). Ok (c.x, l)) (closing.is ∙ ap (λ (l : List Tok). closing.tok ∷ l) behind) in
     group_inside upsert a.x before x c.x word.tok opening.tok closing.tok left b.left rest
-        (word.is ∙ ap (λ (l : List Tok). word.tok ∷ l) opening.is) word.has opening.has read closing.has (ap (value_or c.x) d.then_is)
+    (word.is ∙ ap (λ (l : List Tok). word.tok ∷ l) opening.is) word.has opening.has read closing.has (ap (value_or c.x) d.then_is)
 
 -- a group that stands there is read
 group_back : (upsert : Bool) (before all : List Statement) (left : List Tok) (More : List Tok → Type 0) → (g : HasGroup upsert before all left More) → group upsert before left ≡ Ok (before ++ all, g.rest)
@@ -141,13 +151,23 @@ nothing upsert before x end left b e =
 joined : (upsert : Bool) (before x y : List Statement) (end left rest : List Tok) → ReadGroup upsert before y left rest → ReadGroups upsert y x end rest → ReadGroups upsert before x end left
 joined upsert before x y end left rest g more =
     let behind : AreGrouped upsert (before ++ g.all) more.groups end g.group.rest =
-        subst (λ (l : List Tok). AreGrouped upsert (before ++ g.all) more.groups end l) (sym g.group.more) (subst (λ (l : List Statement). AreGrouped upsert l more.groups end rest) g.is more.are) in
+    subst (λ (l : List Tok). AreGrouped upsert (before ++ g.all) more.groups end l) (sym g.group.more) (subst (λ (l : List Statement). AreGrouped upsert l more.groups end rest) g.is more.are) in
     record {
       groups = g.all ∷ more.groups;
       is = more.is ∙ ap (λ (l : List Statement). l ++ every more.groups) g.is ∙ append_assoc before g.all (every more.groups);
       are = record {
-        delete = g.group.delete; word = g.group.word; opening = g.group.opening; inner = g.group.inner; closing = g.group.closing; rest = g.group.rest;
-        is = g.group.is; named = g.group.named; opens = g.group.opens; listed = g.group.listed; closes = g.group.closes; more = behind;
+        delete = g.group.delete;
+        word = g.group.word;
+        opening = g.group.opening;
+        inner = g.group.inner;
+        closing = g.group.closing;
+        rest = g.group.rest;
+        is = g.group.is;
+        named = g.group.named;
+        opens = g.group.opens;
+        listed = g.group.listed;
+        closes = g.group.closes;
+        more = behind;
       };
     }
 
@@ -206,8 +226,12 @@ all_read upsert all left rest e =
     let found = turns_read upsert (length a.left) [] b.x b.left a.left (omega arith) b.first in
     let end : b.left ≡ closing.tok ∷ rest = closing.is ∙ ap (λ (l : List Tok). closing.tok ∷ l) behind in
     record {
-      groups = found.groups; opening = opening.tok; inner = a.left; closing = closing.tok;
-      is = opening.is; opens = opening.has;
+      groups = found.groups;
+      opening = opening.tok;
+      inner = a.left;
+      closing = closing.tok;
+      is = opening.is;
+      opens = opening.has;
       are = subst (λ (l : List Tok). AreGrouped upsert [] found.groups l a.left) end found.are;
       closes = closing.has;
       every = sym same ∙ found.is;
@@ -216,7 +240,7 @@ all_read upsert all left rest e =
 all_back : (upsert : Bool) (all : List Statement) (left rest : List Tok) → IsGrouped upsert all left rest → groups upsert left ≡ Ok (all, rest)
 all_back upsert all left rest g =
     let inside : repeated begins_group (group upsert) [] g.inner ≡ Ok (all, g.closing ∷ rest) =
-        turns_back upsert g.groups [] (length g.inner) (g.closing ∷ rest) g.inner (omega arith) g.are ∙ ap (λ (l : List Statement). Ok (l, g.closing ∷ rest)) (sym g.every) in
+    turns_back upsert g.groups [] (length g.inner) (g.closing ∷ rest) g.inner (omega arith) g.are ∙ ap (λ (l : List Statement). Ok (l, g.closing ∷ rest)) (sym g.every) in
     ap (groups upsert) g.is ∙ groups_is upsert all g.opening g.closing g.inner rest g.opens inside g.closes
 
 -- statements are read in groups exactly where these stand so

@@ -1,19 +1,15 @@
 -- The printed text of what a text says says the same.
-use Rattle.std.proofs.Common.{◌≡◌, ◌<◌, ℕ, ◌==◌, Bool, true, false, List, [], ◌∷◌, ◌++◌, length, append-nil, refl, sym, ap, ◌∙◌, subst, arith}
-use Rattle.std.specs.Prelude.{Result, Ok, Err, IfOk, map, flat_map, if◌then◌else◌}
+use Rattle.std.proofs.Common.{◌≡◌, ℕ, Bool, true, false, List, [], length, append-nil, refl, sym, ap, ◌∙◌, subst}
+use Rattle.std.specs.Prelude.{Result, Ok, Err, if◌then◌else◌}
 use Rattle.std.specs.List.{AllByRecursion}
 use Rattle.dg_text.specs.Lexing.{lexed}
 use Rattle.dg_text.specs.Listed.{AreListed}
-use Rattle.dg_text.specs.Marks.{open_curly, close_curly}
-use Rattle.dg_text.specs.Places.{offset_of}
+use Rattle.dg_text.specs.Marks.{open_curly}
 use Rattle.dg_text.specs.Reading.{Read, next}
-use Rattle.dg_text.specs.Spelling.{mark_word}
 use Rattle.dg_text.specs.Tokens.{Tok, toks_of, is_punct}
 use Rattle.dg_text.specs.Written.{written}
 use Rattle.dg_text.specs.declared.token.Token.{Token}
 use Rattle.dg_text.proofs.WrittenWords.{words_read}
-use Rattle.dg_nquad.specs.declared.fault.NquadFault.{NquadFault}
-use Rattle.dg_nquad.specs.declared.fault.NquadFault.TheVariants as faults
 use Rattle.dg_nquad.specs.declared.mutation.Statement.{Statement}
 use Rattle.dg_nquad.specs.Grammar.{body, groups, statement, statements, begins_statement, plain_set}
 use Rattle.dg_nquad.specs.Readable.{Stands, AreFormed}

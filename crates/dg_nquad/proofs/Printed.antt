@@ -1,15 +1,15 @@
 -- Words that are written, as their printed parts.
-use Rattle.std.proofs.Common.{◌≡◌, ℕ, ◌+◌, ◌<◌, ◌≤◌, List, [], ◌∷◌, ◌++◌, length, take, drop, get_or, append_assoc, append-nil, refl, sym, ap, ◌∙◌, codes, arith}
-use Rattle.std.specs.Prelude.{flat_map, false, Bool}
+use Rattle.std.proofs.Common.{◌≡◌, ℕ, ◌+◌, ◌<◌, List, [], ◌∷◌, ◌++◌, length, take, get_or, append_assoc, append-nil, ap, ◌∙◌, codes}
+use Rattle.std.specs.Prelude.{flat_map, false}
 use Rattle.std.specs.Fmt.{digits}
-use Rattle.std.proofs.lemmas.List.{drop_more, drop_all, take_more}
+use Rattle.std.proofs.lemmas.List.{take_more}
 use Rattle.std.proofs.lemmas.Grind.{flat_map-append}
 use Rattle.dg_values.specs.declared.kind.Kind.{Kind}
 use Rattle.dg_text.specs.Quoting.{quoted_word}
 use Rattle.dg_text.specs.Spelling.{iri_word, iri_uid_word, blank_word, mark_word, caret_word, uid_text}
 use Rattle.dg_text.specs.Written.{Word, written}
 use Rattle.dg_nquad.specs.declared.mutation.Statement.{Statement}
-use Rattle.dg_nquad.specs.Texts.{variable_words, node_words, object_words, statement_words, tag_words, type_of_kind, group_name, alone_words, groups_words}
+use Rattle.dg_nquad.specs.Texts.{variable_words, node_words, object_words, statement_words, type_of_kind, group_name, alone_words, groups_words}
 
 -- words before others
 written_both : (ws more : List Word) → written (ws ++ more) ≡ written ws ++ written more

@@ -6,7 +6,6 @@ use Rattle.std.specs.List.{AllByRecursion}
 use Rattle.std.specs.Str.{bytes_eq}
 use Rattle.std.proofs.SliceLists.{all_by_recursion_push}
 use Rattle.std.proofs.lemmas.Bool.{eqb-true}
-use Rattle.dg_values.specs.declared.kind.Kind.{Kind}
 use Rattle.dg_values.specs.declared.kind.Kind.TheVariants as kinds
 use Rattle.dg_text.specs.Marks as marks
 use Rattle.dg_text.specs.Reading.{Read, Reader, and_then, meant, next, one_as, optional, refuse_at, repeated, skip, turns}
@@ -17,10 +16,7 @@ use Rattle.dg_text.specs.declared.token.TokenKind.TheVariants as tokens
 use Rattle.dg_text.proofs.NodeSpelling.{nodes_are_bounded}
 use Rattle.dg_text.specs.Written.{IsWord}
 use Rattle.dg_nquad.specs.declared.block.Block.{Block}
-use Rattle.dg_nquad.specs.declared.mutation.Node.{Node}
 use Rattle.dg_nquad.specs.declared.mutation.Node.TheVariants as nodes
-use Rattle.dg_nquad.specs.declared.mutation.Object.{Object}
-use Rattle.dg_nquad.specs.declared.mutation.Object.TheVariants as objects
 use Rattle.dg_nquad.specs.declared.mutation.Statement.{Statement}
 use Rattle.dg_nquad.specs.Grammar.{variable, uid_variable, node, type_tag, literal, val_variable, all_objects, node_object, object, statement, statements, group, groups, begins_statement, begins_group, is_label}
 use Rattle.dg_nquad.specs.Readable.{VariableStands, NodeStands, IsTyped, ObjectStands, Stands, StandsAlone, IsFormed, AreFormed}
@@ -105,7 +101,6 @@ not_true : (a : Bool) → not a ≡ true → a ≡ false
 not_true true e = absurd (cc)
 not_true false e = refl
 
-
 -- the front byte and what stands behind it
 behind_byte : (byte : ℕ) (text rest : List ℕ) → after byte text ≡ Some rest → text ≡ byte ∷ rest
 behind_byte byte [] rest e = absurd (cc)
@@ -132,8 +127,8 @@ node_stands block t f =
     (λ _. mapped (λ n. (0 < n) × (n < 2 ^ 64)) (NodeStands block) nodes.Uid (uid_said t.text) (λ n q. q) (where_some (λ n. (0 < n) × (n < 2 ^ 64)) (uid_said t.text) (nodes_are_bounded t.text)))
     (some_of (NodeStands block) (not block.delete && is_blank t) (option_map nodes.Blank (blank_name t.text)) None
     (λ e. mapped (λ (name : List ℕ). t.text ≡ 95 ∷ 58 ∷ name) (NodeStands block) nodes.Blank (blank_name t.text)
-        (λ name is. (not_true block.delete (and_front (not block.delete) (is_blank t) e), subst (λ (text : List ℕ). IsWord (tokens.Blank, text)) is (f.blank (and_back (not block.delete) (is_blank t) e))))
-        (where_some (λ (name : List ℕ). t.text ≡ 95 ∷ 58 ∷ name) (blank_name t.text) (blank_is t.text)))
+    (λ name is. (not_true block.delete (and_front (not block.delete) (is_blank t) e), subst (λ (text : List ℕ). IsWord (tokens.Blank, text)) is (f.blank (and_back (not block.delete) (is_blank t) e))))
+    (where_some (λ (name : List ℕ). t.text ≡ 95 ∷ 58 ∷ name) (blank_name t.text) (blank_is t.text)))
     tt)
 
 name_whole : (t : Tok) → IsFormed t → IfSome (name_meant t) (λ name. is_whole_name name ≡ true)
@@ -196,7 +191,7 @@ unfolding literal
 literal_made block left f =
     in_turn Any (ObjectStands block) (one_as quoted_meant left) _ (any_made quoted_meant left f)
     (λ text _ l1 f1. in_turn (λ tag. IfSome tag IsTyped) (ObjectStands block) (optional (next is_caret) type_tag None l1) _
-        (one_of (λ tag. IfSome tag IsTyped) (next is_caret l1) (type_tag l1) (Ok (None, l1)) (λ _. tag_made l1 f1) (tt, f1))
+    (one_of (λ tag. IfSome tag IsTyped) (next is_caret l1) (type_tag l1) (Ok (None, l1)) (λ _. tag_made l1 f1) (tt, f1))
     (λ tag q rest g. (q, g)))
 
 val_variable_made : (block : Block) (left : List Tok) → AreFormed left → Makes (ObjectStands block) (val_variable block left)
@@ -236,11 +231,14 @@ statement_adds block before left f =
     (λ p predicate l2 f2. in_turn (ObjectStands block) Q (object block l2) _ (object_made block l2 f2)
     (λ o object_stands l3 f3. in_turn Any Q (optional (next is_label) (skip is_label) tt l3) _ (one_of Any (next is_label l3) (skip is_label l3) (Ok (tt, l3)) (λ _. skip_made is_label l3 f3) (tt, f3))
     (λ _ _ l4 f4. in_turn Any Q (skip (is_punct marks.dot) l4) _ (skip_made (is_punct marks.dot) l4 f4)
-    (λ _ _ l5 f5. (record {
-      s = record { delete = block.delete; s = s; p = p; o = o };
-      stands = record { direction = refl; subject = subject; predicate = predicate; object = object_stands };
-      is = refl;
-    }, f5))))))
+    (λ _ _ l5 f5. (
+      record {
+        s = record { delete = block.delete; s = s; p = p; o = o };
+        stands = record { direction = refl; subject = subject; predicate = predicate; object = object_stands };
+        is = refl;
+      },
+      f5,
+    ))))))
 
 last_same : (before : List Statement) (a b : Statement) → before ++ a ∷ [] ≡ before ++ b ∷ [] → a ≡ b
 last_same [] a b e = cc

@@ -10,7 +10,7 @@ use Rattle.dg_text.specs.Written.{Word, IsWord}
 use Rattle.dg_text.proofs.NodeSpelling.{nodes_read_back}
 use Rattle.dg_text.proofs.NameSpelling.{names_read_back}
 use Rattle.dg_text.proofs.Quotes.{quotes_are_words}
-use Rattle.dg_text.specs.Spelling.{iri_word, name_word, mark_word, caret_word}
+use Rattle.dg_text.specs.Spelling.{iri_word, mark_word, caret_word}
 use Rattle.dg_nquad.specs.declared.block.Block.{Block}
 use Rattle.dg_nquad.specs.declared.mutation.Node.{Node}
 use Rattle.dg_nquad.specs.declared.mutation.Node.TheVariants as nodes
@@ -18,7 +18,7 @@ use Rattle.dg_nquad.specs.declared.mutation.Object.{Object}
 use Rattle.dg_nquad.specs.declared.mutation.Object.TheVariants as objects
 use Rattle.dg_nquad.specs.declared.mutation.Statement.{Statement}
 use Rattle.dg_nquad.specs.Readable.{NodeStands, ObjectStands, Stands, StandsAlone}
-use Rattle.dg_nquad.specs.Texts.{variable_words, node_words, type_of_kind, tag_words, object_words, statement_words, statements_words, group_name, group_words, alone_words, groups_words}
+use Rattle.dg_nquad.specs.Texts.{variable_words, node_words, type_of_kind, tag_words, object_words, statement_words, statements_words, group_name, alone_words, groups_words}
 
 abbrev AreWords : List Word → Type 0
 AreWords ws = AllByRecursion IsWord ws
@@ -103,9 +103,13 @@ statements_are block (s ∷ all) a = both (statement_words s) (statements_words 
 -- ---- groups
 
 alone_are : (upsert : Bool) (s : Statement) → StandsAlone upsert s → AreWords (alone_words s)
-alone_are upsert s q =
-    ((names_read_back (group_name s.delete) (group_whole s.delete)).plain, (open_curly_is,
-    both (statement_words s ++ []) (mark_word 125 ∷ []) (both (statement_words s) [] (statement_are (record { delete = s.delete; upsert = upsert }) s q) tt) (close_curly_is, tt)))
+alone_are upsert s q = (
+  (names_read_back (group_name s.delete) (group_whole s.delete)).plain,
+  (
+    open_curly_is,
+    both (statement_words s ++ []) (mark_word 125 ∷ []) (both (statement_words s) [] (statement_are (record { delete = s.delete; upsert = upsert }) s q) tt) (close_curly_is, tt),
+  ),
+)
 
 all_are : (upsert : Bool) (all : List Statement) → AllByRecursion (StandsAlone upsert) all → AreWords (flat_map alone_words all)
 all_are upsert [] a = tt

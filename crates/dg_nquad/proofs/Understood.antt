@@ -1,20 +1,20 @@
 -- Tokens that say the words of a statement are read as it.
-use Rattle.std.proofs.Common.{◌≡◌, ℕ, Bool, true, false, ◌&&◌, List, [], ◌∷◌, ◌++◌, Some, None, Ok, refl, sym, ap, ◌∙◌, subst}
+use Rattle.std.proofs.Common.{◌≡◌, ℕ, Bool, true, false, ◌&&◌, List, [], ◌∷◌, ◌++◌, Some, None, Ok, refl, sym, ap, ◌∙◌}
 use Rattle.std.specs.Prelude.{map, codes, Option, IfSome}
 use Rattle.std.specs.Option.{option_map, option_and_then}
 use Rattle.std.specs.Str.{bytes_eq}
 use Rattle.dg_values.specs.declared.kind.Kind.{Kind}
-use Rattle.dg_text.specs.Marks.{open_round, close_round, star, dot}
-use Rattle.dg_text.specs.Reading.{Read, Reader, and_then, choose, give, meant, next, one_as, optional, skip}
-use Rattle.dg_text.specs.Said.{uid_said, quoted_meant}
-use Rattle.dg_text.specs.Tokens.{Tok, is_iri, is_punct, is_word, is_quoted, is_caret}
-use Rattle.dg_text.specs.Words.{is_whole_name, name_meant, predicate_meant}
+use Rattle.dg_text.specs.Marks.{star, dot}
+use Rattle.dg_text.specs.Reading.{Read, meant, next, one_as, optional, skip}
+use Rattle.dg_text.specs.Said.{quoted_meant}
+use Rattle.dg_text.specs.Tokens.{Tok, is_punct, is_word, is_quoted, is_caret}
+use Rattle.dg_text.specs.Words.{is_whole_name, predicate_meant}
 use Rattle.dg_text.specs.declared.token.TokenKind.{TokenKind}
 use Rattle.dg_text.proofs.NodeSpelling.{nodes_read_back}
 use Rattle.dg_text.proofs.NameSpelling.{iris_say_their_text, names_read_back}
 use Rattle.dg_text.proofs.Quotes.{quotes_mean_texts}
 use Rattle.dg_text.specs.Written.{Word, word_said, tok_said}
-use Rattle.dg_text.specs.Spelling.{iri_uid_word, iri_word, blank_word, name_word, mark_word, caret_word}
+use Rattle.dg_text.specs.Spelling.{iri_uid_word, iri_word, blank_word, mark_word, caret_word}
 use Rattle.dg_text.specs.Quoting.{quoted_word}
 use Rattle.dg_nquad.specs.declared.block.Block.{Block}
 use Rattle.dg_nquad.specs.declared.mutation.Node.{Node}
@@ -23,7 +23,7 @@ use Rattle.dg_nquad.specs.declared.mutation.Object.{Object}
 use Rattle.dg_nquad.specs.declared.mutation.Object.TheVariants as objects
 use Rattle.dg_nquad.specs.declared.mutation.Statement.{Statement}
 use Rattle.dg_nquad.specs.Grammar.{variable, uid_variable, node, type_tag, literal, val_variable, all_objects, node_object, object, statement, begins_statement, is_label}
-use Rattle.dg_nquad.specs.Readable.{VariableStands, NodeStands, IsTyped, ObjectStands, Stands}
+use Rattle.dg_nquad.specs.Readable.{NodeStands, IsTyped, ObjectStands, Stands}
 use Rattle.dg_nquad.specs.Texts.{variable_words, node_words, type_of_kind, tag_words, object_words, statement_words}
 use Rattle.dg_nquad.specs.Words.{node_meant, kind_meant, kind_of_type, type_name}
 
@@ -218,7 +218,7 @@ spread_read block before s starts rest q =
     let o = object_read block s.o (behind n.after) [] rest q.object in
     let same : record { delete = block.delete; s = s.s; p = s.p; o = s.o } ≡ s = (let back = sym q.direction in λ i. record { delete = back i; s = s.s; p = s.p; o = s.o }) in
     statement_is block before s.s s.p s.o (spread starts (statement_words s) rest) (t ∷ mid) mid (spread o.after (point []) rest) rest
-        n.is (one_read predicate_meant t mid s.p (predicate_read n.after s.p q.predicate)) o.is refl refl
+    n.is (one_read predicate_meant t mid s.p (predicate_read n.after s.p q.predicate)) o.is refl refl
     ∙ ap (λ (x : Statement). Ok (before ++ x ∷ [], rest)) same
 
 -- tokens that say the words of a statement are read as it
