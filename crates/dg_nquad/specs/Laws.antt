@@ -1,4 +1,4 @@
--- What the tokens of a text say, and that its statements stand one after the other.
+-- What the tokens of a text say, and that its statements and groups stand one after the other.
 use Rattle.std.specs.Prelude.{◌≡◌, ◌↔◌, ℕ, Bool, true, false, List, [], ◌++◌, Ok, IsSome}
 use Rattle.std.specs.List.{AllByRecursion}
 use Rattle.dg_text.specs.Lexing.{lexed}

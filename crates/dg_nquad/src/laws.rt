@@ -1,4 +1,4 @@
-// What the tokens of a text say, and that its statements stand one after the other.
+// What the tokens of a text say, that its statements stand one after the other, and that what is printed reads back.
 ghost use Rattle.dg_nquad.specs.Laws.{GroupedIsListed, GroupsAreListed, PlainIsListed, QuotedSays, StatementsAreListed};
 ghost use Rattle.dg_nquad.specs.Readable.{GroupsReadBack, MutationReadsBack, PlainReadsBack, ReadStandAlone, ReadStands, StatementReadsBack, TokensAreFormed};
 
@@ -21,7 +21,9 @@ pub fn groups_are_listed()
     ensures whole { GroupedIsListed }
 {}
 
-/// What is printed of statements reads back.
+/// What is read of a text's tokens, in a block or in groups, can stand there. What can stand there is printed as words, and
+/// tokens that say these words are read as it again. So the text of what a text says says the same; without groups too, where
+/// all of it sets and has no variable.
 pub fn statements_read_back()
     ensures formed { TokensAreFormed }
     ensures stands { ReadStands }

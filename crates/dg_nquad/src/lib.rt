@@ -3,6 +3,9 @@
 //! [`read_mutation`] gives the statements of a text in its order, or the place of its fault. The grammar is
 //! `specs/Grammar.antt`, written as it is read by the rules of `dg_text`. [`grammar`] reads it from tokens, also the groups
 //! of an upsert block, in which variables may stand.
+//!
+//! [`Mutation::text_of`] prints what was read, and its text reads as the same statements. [`printing`] prints the parts, also
+//! those with variables.
 #![tactic(auto)]
 
 pub mod block;
