@@ -19,6 +19,8 @@ from typing import NamedTuple, Optional, Union
 import plain_machine as plain
 
 LONGEST_ANSWER = 16_777_216
+TYPES = {"int": "int", "string": "string", "bool": "boolean", "dateTime": "dateTime"}
+ESCAPES = str.maketrans({'"': '\\"', "\\": "\\\\", "\n": "\\n", "\r": "\\r"})
 KINDS = {"default": "Default", "int": "Int", "string": "Text", "bool": "Bool", "dateTime": "Time", "uid": "Uid"}
 
 
@@ -341,12 +343,41 @@ def statement(said: plain.Statement) -> str:
     return f"{verb} {node(said.subject)} {said.predicate} {target}."
 
 
+def no_mutation(refusal: plain.Refusal) -> str:
+    _, number, _, offset = refusal.line.split()
+    return no_token(int(offset)) if number == "3" else f"no mutation by byte {offset}"
+
+
 def row_mutation(text: str) -> str:
     try:
         return shown(listed([statement(said) for said in plain.MutationReader(text).read()], " "))
     except plain.Refusal as refusal:
-        _, number, _, offset = refusal.line.split()
-        return no_token(int(offset)) if number == "3" else f"no mutation by byte {offset}"
+        return no_mutation(refusal)
+
+
+def written_node(said: plain.Node) -> str:
+    return f"_:{said.name}" if said.name else f"<{hex(said.uid)}>"
+
+
+def written_object(said: Union[plain.Node, plain.Literal, None]) -> str:
+    if said is None:
+        return "*"
+    if isinstance(said, plain.Node):
+        return written_node(said)
+    tag = f" ^^ <xs:{TYPES[said.kind]}>" if said.kind else ""
+    return f'"{said.text.translate(ESCAPES)}"{tag}'
+
+
+def row_written(text: str) -> str:
+    try:
+        all_said = plain.MutationReader(text).read()
+    except plain.Refusal as refusal:
+        return no_mutation(refusal)
+    groups = [
+        f"{'delete' if said.deletes else 'set'} {{ {written_node(said.subject)} <{said.predicate}> {written_object(said.object)} . }} "
+        for said in all_said
+    ]
+    return shown(f"{{ {''.join(groups)}}} end")
 
 
 def front(text: bytes) -> str:
@@ -458,6 +489,7 @@ TEXTS: dict[str, Callable[[str], str]] = {
     "schema": row_schema,
     "printed": row_printed,
     "mutation": row_mutation,
+    "written": row_written,
     "cut": row_cut,
 }
 

@@ -79,6 +79,7 @@ fn answer_to_text(alloc: Global, table: &str, text: &str) -> Mem<Option<String>>
         "schema" => schemas::definitions(alloc, text),
         "printed" => schemas::printed(alloc, text),
         "mutation" => mutations::mutation(alloc, text),
+        "written" => mutations::written(alloc, text),
         "upsert" => mutations::upsert(alloc, text),
         "cut" => mutations::cut(alloc, text),
         _ => Ok(None),

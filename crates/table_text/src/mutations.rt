@@ -26,6 +26,20 @@ pub(crate) fn mutation(alloc: Global, text: &str) -> Mem<Option<String>>
     }
 }
 
+// The printed text of a mutation, up to its end, or why there is none.
+pub(crate) fn written(alloc: Global, text: &str) -> Mem<Option<String>>
+    requires { length text.now ≤ 1048576 }
+{
+    match read_mutation(alloc, text) {
+        Ok(mutation) => {
+            let mut text = mutation.text_of(alloc)?;
+            text.push_str("end")?;
+            Ok(Some(pictured(alloc, text.as_str())?))
+        }
+        Err(fault) => Ok(Some(fault.to_string(alloc)?)),
+    }
+}
+
 // The statements of an upsert block that sets, up to the first token that begins none.
 #[tactic(auto, using(dg_text::proofs::Small::are_small))]
 pub(crate) fn upsert(alloc: Global, text: &str) -> Mem<Option<String>>
