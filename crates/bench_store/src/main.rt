@@ -3,9 +3,11 @@
 #![tactic(auto)]
 
 mod bases;
+mod beside;
 mod fault;
 mod lists;
 mod maps;
+mod plain;
 mod rows;
 mod shuffle;
 mod stores;
@@ -24,14 +26,14 @@ fn main(rt: HostRuntime) -> Result<()> {
     } else {
         &[10, 100]
     };
-    for size in sizes {
-        print_store(&rt, rt.alloc(), *size, timed)?;
-    }
     let more: &[u64] = if timed {
         &[100, 1_000, 10_000, 100_000, 1_000_000]
     } else {
         &[10, 100]
     };
+    for size in more {
+        print_store(&rt, rt.alloc(), *size, timed)?;
+    }
     for size in more {
         print_filled(&rt, rt.alloc(), *size, timed)?;
         print_map(&rt, rt.alloc(), *size, timed)?;
