@@ -15,27 +15,29 @@ const LOOKED: u64 = 10_000;
 // How many keys are put into a map in pages.
 const PUT: u64 = 1_000;
 
-// Prints what it costs to look up a key and to put one, in a map of so many pairs and in a plain one of the same.
+// Prints what it costs to look up a key and to put one, in a map of so many pairs and in a plain one, both made in order.
 pub(crate) fn print_beside(
     rt: &(impl Print + Clock),
     alloc: Global,
-    row: Row,
-    map: &Pages<u64, u64>,
+    size: u64,
+    timed: bool,
 ) -> Result<()> {
-    let plain = plain(alloc, row.size)?;
-    let keys = keys(alloc, row.size)?;
+    let row = Row { size, timed };
+    let paged = paged(alloc, size)?;
+    let plain = plain(alloc, size)?;
+    let keys = keys(alloc, size)?;
     let since = begin(rt, alloc)?;
-    let found = look(map, keys.as_slice());
+    let found = look(&paged, keys.as_slice());
     print_row(rt, row, "pairs, get", LOOKED, since, found)?;
     let since = begin(rt, alloc)?;
     let found = look_plain(&plain, keys.as_slice());
     print_row(rt, row, "plain pairs, get", LOOKED, since, found)?;
     let since = begin(rt, alloc)?;
-    let made = put(alloc, map, row.size)?;
+    let made = put(alloc, &paged, size)?;
     print_row(rt, row, "pairs, one put", PUT, since, made)?;
-    let puts = plain_puts(row.size);
+    let puts = plain_puts(size);
     let since = begin(rt, alloc)?;
-    let made = put_plain(alloc, &plain, row.size, puts)?;
+    let made = put_plain(alloc, &plain, size, puts)?;
     print_row(rt, row, "plain pairs, one put", puts, since, made)
 }
 
@@ -61,6 +63,16 @@ fn look(map: &Pages<u64, u64>, keys: &[u64]) -> u64 {
 // How many of the keys are there.
 fn look_plain(map: &PlainMap<u64, u64>, keys: &[u64]) -> u64 {
     keys.iter().filter(|key| map.get(key).is_some()).count() as u64
+}
+
+// A map of so many pairs.
+fn paged(alloc: Global, size: u64) -> Result<Pages<u64, u64>, Fault> {
+    let mut changes = Vec::new(alloc);
+    for before in 0..size {
+        let key = before + 1;
+        changes.push((Arc::new(alloc, key)?, Some(Arc::new(alloc, key)?)))?;
+    }
+    Ok(Pages::new(alloc)?.with_changes(alloc, changes)?)
 }
 
 // A plain map of so many pairs.

@@ -13,6 +13,7 @@ mod shuffle;
 mod stores;
 
 use crate::bases::print_base;
+use crate::beside::print_beside;
 use crate::lists::{print_list, print_replaced};
 use crate::maps::print_map;
 use crate::stores::{print_filled, print_store};
@@ -37,6 +38,7 @@ fn main(rt: HostRuntime) -> Result<()> {
     for size in more {
         print_filled(&rt, rt.alloc(), *size, timed)?;
         print_map(&rt, rt.alloc(), *size, timed)?;
+        print_beside(&rt, rt.alloc(), *size, timed)?;
     }
     for size in sizes {
         print_list(&rt, rt.alloc(), *size, timed)?;

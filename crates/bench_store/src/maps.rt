@@ -1,5 +1,4 @@
 // What a map in pages costs.
-use crate::beside::print_beside;
 use crate::fault::Fault;
 use crate::rows::{Row, begin, print_row};
 use crate::shuffle::shuffled;
@@ -59,7 +58,7 @@ pub(crate) fn print_map(
         since,
         made,
     )?;
-    print_beside(rt, alloc, row, &map)
+    Ok(())
 }
 
 // The value of the last key, which is its number.
