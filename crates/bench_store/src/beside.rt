@@ -26,9 +26,12 @@ pub(crate) fn print_beside(
     let paged = paged(alloc, size)?;
     let plain = plain(alloc, size)?;
     let keys = keys(alloc, size)?;
+    // Each is gone over once before its time begins, so that it doesn't matter which of them was made last.
+    let _warm = look(&paged, keys.as_slice());
     let since = begin(rt, alloc)?;
     let found = look(&paged, keys.as_slice());
     print_row(rt, row, "pairs, get", LOOKED, since, found)?;
+    let _warm = look_plain(&plain, keys.as_slice());
     let since = begin(rt, alloc)?;
     let found = look_plain(&plain, keys.as_slice());
     print_row(rt, row, "plain pairs, get", LOOKED, since, found)?;
