@@ -4,13 +4,14 @@ ghost use Rattle.dg_values.specs.Ascending.{Ascends};
 ghost use Rattle.dg_values.specs.Order.{posting_cmp};
 
 use crate::fault::Fault;
-use crate::rows::{Row, print_row};
+use crate::plain::PlainBase;
+use crate::rows::{Row, begin, print_row};
 use anyhow::Result;
 use dg_base::Base;
 use dg_sets::ascend;
 use dg_values::Posting;
 use std::alloc::Global;
-use std::time::{Clock, Instant};
+use std::time::Clock;
 
 // How many nodes are looked for.
 const LOOKED: u64 = 100_000;
@@ -28,13 +29,14 @@ pub(crate) fn print_base(
     let row = Row { size, timed };
     let numbers = numbers(alloc, size)?;
     let postings = postings(alloc, numbers.as_slice())?;
-    let since = Instant::now(rt)?;
+    let since = begin(rt, alloc)?;
     let base = pack(alloc, postings.as_slice())?;
     print_row(rt, row, "nodes, pack", 1, since, base.len() as u64)?;
     let bytes = base.packed().len();
     println!(rt; "{size} nodes, packed: {bytes} bytes")?;
-    print_finds(rt, alloc, row, &base, numbers.as_slice())?;
-    print_walks(rt, alloc, row, &base, numbers.as_slice())
+    let plain = PlainBase::of(postings);
+    print_finds(rt, alloc, row, &base, &plain, numbers.as_slice())?;
+    print_walks(rt, alloc, row, &base, &plain, numbers.as_slice())
 }
 
 // Prints what it costs to look for a node.
@@ -43,13 +45,17 @@ fn print_finds(
     alloc: Global,
     row: Row,
     base: &Base,
+    plain: &PlainBase,
     numbers: &[u64],
 ) -> Result<()> {
     let drawn = drawn(alloc, numbers)?;
-    let since = Instant::now(rt)?;
+    let since = begin(rt, alloc)?;
     let found = find(base, drawn.as_slice());
     print_row(rt, row, "nodes, find", LOOKED, since, found)?;
-    let since = Instant::now(rt)?;
+    let since = begin(rt, alloc)?;
+    let found = find_plain(plain, drawn.as_slice());
+    print_row(rt, row, "plain nodes, find", LOOKED, since, found)?;
+    let since = begin(rt, alloc)?;
     let found = search(numbers, drawn.as_slice());
     print_row(rt, row, "numbers, binary_search", LOOKED, since, found)
 }
@@ -60,15 +66,19 @@ fn print_walks(
     alloc: Global,
     row: Row,
     base: &Base,
+    plain: &PlainBase,
     numbers: &[u64],
 ) -> Result<()> {
-    let since = Instant::now(rt)?;
+    let since = begin(rt, alloc)?;
     let read = walk(alloc, base)?;
     print_row(rt, row, "nodes, walk of all", READ, since, read)?;
-    let since = Instant::now(rt)?;
+    let since = begin(rt, alloc)?;
+    let read = walk_plain(alloc, plain)?;
+    print_row(rt, row, "plain nodes, walk of all", READ, since, read)?;
+    let since = begin(rt, alloc)?;
     let read = copy(alloc, numbers)?;
     print_row(rt, row, "numbers, copy of all", READ, since, read)?;
-    let since = Instant::now(rt)?;
+    let since = begin(rt, alloc)?;
     let read = turn(alloc, numbers)?;
     print_row(rt, row, "numbers, postings of all", READ, since, read)
 }
@@ -81,6 +91,14 @@ fn pack(alloc: Global, postings: &[Posting]) -> Result<Base, Fault>
 
 // How many of the nodes are there.
 fn find(base: &Base, drawn: &[u64]) -> u64 {
+    drawn
+        .iter()
+        .filter(|number| base.find(&Posting::Uid(**number)))
+        .count() as u64
+}
+
+// How many of the nodes are in a plain base.
+fn find_plain(base: &PlainBase, drawn: &[u64]) -> u64 {
     drawn
         .iter()
         .filter(|number| base.find(&Posting::Uid(**number)))
@@ -100,6 +118,16 @@ fn walk(alloc: Global, base: &Base) -> Result<u64, Fault> {
     let mut read: u64 = 0;
     for _ in 0..READ {
         let items = base.walk(alloc, 0, base.len())?;
+        read = read.saturating_add(items.len() as u64);
+    }
+    Ok(read)
+}
+
+// How many postings of a plain base were read, all of them several times.
+fn walk_plain(alloc: Global, base: &PlainBase) -> Result<u64, Fault> {
+    let mut read: u64 = 0;
+    for _ in 0..READ {
+        let items = base.walk(alloc)?;
         read = read.saturating_add(items.len() as u64);
     }
     Ok(read)

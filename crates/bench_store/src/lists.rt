@@ -4,7 +4,8 @@ ghost use Rattle.std.specs.Arc.{arc_value};
 ghost use Rattle.dg_list.specs.Lists.{newest_ts, reading};
 
 use crate::fault::Fault;
-use crate::rows::{Row, print_row};
+use crate::plain::PlainBase;
+use crate::rows::{Row, begin, print_row};
 use anyhow::Result;
 use dg_base::Base;
 use dg_delta::{Layer, Op};
@@ -14,7 +15,7 @@ use std::alloc::Global;
 use std::marker::Brand;
 use std::sync::Arc;
 use std::sync::ledger::{Blank, Ledger};
-use std::time::{Clock, Instant};
+use std::time::Clock;
 
 // How many layers are put on top, and how many nodes are looked for.
 const CALLS: u64 = 1_000;
@@ -36,7 +37,7 @@ pub(crate) fn print_list(
     timed: bool,
 ) -> Result<()> {
     let row = Row { size, timed };
-    let since = Instant::now(rt)?;
+    let since = begin(rt, alloc)?;
     let list = grown(alloc, size, Growth::Adding)?;
     print_row(
         rt,
@@ -58,7 +59,7 @@ pub(crate) fn print_replaced(
     timed: bool,
 ) -> Result<()> {
     let row = Row { size, timed };
-    let since = Instant::now(rt)?;
+    let since = begin(rt, alloc)?;
     let list = grown(alloc, size, Growth::Replacing)?;
     print_row(
         rt,
@@ -85,10 +86,10 @@ fn print_newest<L: Ledger>(
     requires base { list.now.base_ts ≡ 0 }
 {
     let mut reads: Steps<L> = Steps::new(blank);
-    let since = Instant::now(rt)?;
+    let since = begin(rt, alloc)?;
     let found = look(list, row.size, 0, CALLS, &mut reads);
     print_row(rt, row, "replaced, has_at of no node", CALLS, since, found)?;
-    let since = Instant::now(rt)?;
+    let since = begin(rt, alloc)?;
     let found = read(alloc, list, row.size, CALLS, &mut reads)?;
     print_row(
         rt,
@@ -108,7 +109,7 @@ fn print_pushes(rt: &(impl Print + Clock), alloc: Global, row: Row, list: &PList
         return Err(Fault::Unordered.into());
     };
     let top = layer(alloc, next, Growth::Adding)?;
-    let since = Instant::now(rt)?;
+    let since = begin(rt, alloc)?;
     let made = push(alloc, list, &top)?;
     print_row(rt, row, "layers, with_layer", CALLS, since, made)
 }
@@ -141,7 +142,7 @@ fn print_reads<L: Ledger>(
     let mut reads: Steps<L> = Steps::new(blank);
     let newest = row.size;
     let calls = calls_over(newest);
-    let since = Instant::now(rt)?;
+    let since = begin(rt, alloc)?;
     let found = look(list, newest, newest, CALLS, &mut reads);
     print_row(
         rt,
@@ -151,10 +152,10 @@ fn print_reads<L: Ledger>(
         since,
         found,
     )?;
-    let since = Instant::now(rt)?;
+    let since = begin(rt, alloc)?;
     let found = look(list, newest, 0, calls, &mut reads);
     print_row(rt, row, "layers, has_at of no node", calls, since, found)?;
-    let since = Instant::now(rt)?;
+    let since = begin(rt, alloc)?;
     let found = read(alloc, list, 2, calls, &mut reads)?;
     print_row(
         rt,
@@ -184,7 +185,7 @@ fn print_merge<L: Ledger>(
 {
     let newest = row.size;
     let calls = calls_over(newest);
-    let since = Instant::now(rt)?;
+    let since = begin(rt, alloc)?;
     let found = read(alloc, list, newest, calls, reads)?;
     print_row(
         rt,
@@ -194,14 +195,18 @@ fn print_merge<L: Ledger>(
         since,
         found,
     )?;
-    let since = Instant::now(rt)?;
+    let since = begin(rt, alloc)?;
     let base = merge(alloc, list, newest, reads)?;
     print_row(rt, row, "layers, merged", 1, since, base.len() as u64)?;
     let rolled = roll(alloc, list, base, newest)?;
-    let since = Instant::now(rt)?;
+    let since = begin(rt, alloc)?;
     let found = read(alloc, &rolled, newest, calls, reads)?;
     print_row(rt, row, "in a base, read_at", calls, since, found)?;
-    let since = Instant::now(rt)?;
+    let plain = plain(alloc, list, newest, reads)?;
+    let since = begin(rt, alloc)?;
+    let found = read_plain(alloc, &plain, calls)?;
+    print_row(rt, row, "in a plain base, read_at", calls, since, found)?;
+    let since = begin(rt, alloc)?;
     let found = look(&rolled, newest, newest, CALLS, reads);
     print_row(rt, row, "in a base, has_at", CALLS, since, found)?;
     print_roll(rt, alloc, row, list, reads)
@@ -219,7 +224,7 @@ fn print_roll<L: Ledger>(
 {
     let half = row.size / 2;
     let base = merge(alloc, list, half, reads)?;
-    let since = Instant::now(rt)?;
+    let since = begin(rt, alloc)?;
     let rolled = roll(alloc, list, base, half)?;
     let found = look(&rolled, half, half, 1, reads);
     print_row(
@@ -252,6 +257,28 @@ fn roll(alloc: Global, list: &PList, base: Arc<Base>, upto: u64) -> Result<PList
     ensures { IfOk result (λ list. list.base_ts ≡ upto) }
 {
     Ok(list.with_base(alloc, base, upto)?)
+}
+
+// A plain base that is the list at a timestamp.
+fn plain<L: Ledger>(
+    alloc: Global,
+    list: &PList,
+    ts: u64,
+    reads: &mut Steps<L>,
+) -> Result<PlainBase, Fault>
+    requires { list.now.base_ts ≤ ts }
+{
+    Ok(PlainBase::of(list.read_at(alloc, ts, reads)?))
+}
+
+// How many postings of a plain base were read.
+fn read_plain(alloc: Global, base: &PlainBase, calls: u64) -> Result<u64, Fault> {
+    let mut read: u64 = 0;
+    for _ in 0..calls {
+        let items = base.walk(alloc)?;
+        read = read.saturating_add(items.len() as u64);
+    }
+    Ok(read)
 }
 
 // How many postings were read.

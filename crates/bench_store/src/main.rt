@@ -3,14 +3,17 @@
 #![tactic(auto)]
 
 mod bases;
+mod beside;
 mod fault;
 mod lists;
 mod maps;
+mod plain;
 mod rows;
 mod shuffle;
 mod stores;
 
 use crate::bases::print_base;
+use crate::beside::print_beside;
 use crate::lists::{print_list, print_replaced};
 use crate::maps::print_map;
 use crate::stores::{print_filled, print_store};
@@ -24,17 +27,18 @@ fn main(rt: HostRuntime) -> Result<()> {
     } else {
         &[10, 100]
     };
-    for size in sizes {
-        print_store(&rt, rt.alloc(), *size, timed)?;
-    }
     let more: &[u64] = if timed {
         &[100, 1_000, 10_000, 100_000, 1_000_000]
     } else {
         &[10, 100]
     };
     for size in more {
+        print_store(&rt, rt.alloc(), *size, timed)?;
+    }
+    for size in more {
         print_filled(&rt, rt.alloc(), *size, timed)?;
         print_map(&rt, rt.alloc(), *size, timed)?;
+        print_beside(&rt, rt.alloc(), *size, timed)?;
     }
     for size in sizes {
         print_list(&rt, rt.alloc(), *size, timed)?;

@@ -1,12 +1,12 @@
 // What a map in pages costs.
 use crate::fault::Fault;
-use crate::rows::{Row, print_row};
+use crate::rows::{Row, begin, print_row};
 use crate::shuffle::shuffled;
 use anyhow::Result;
 use dg_pages::Pages;
 use std::alloc::Global;
 use std::sync::Arc;
-use std::time::{Clock, Instant};
+use std::time::Clock;
 
 // How many changes are made together.
 const TOGETHER: u64 = 100;
@@ -22,10 +22,10 @@ pub(crate) fn print_map(
     timed: bool,
 ) -> Result<()> {
     let row = Row { size, timed };
-    let since = Instant::now(rt)?;
+    let since = begin(rt, alloc)?;
     let map = with_all(alloc, size, false)?;
     print_row(rt, row, "pairs, put at once", 1, since, last(&map, size))?;
-    let since = Instant::now(rt)?;
+    let since = begin(rt, alloc)?;
     let map = with_all(alloc, size, true)?;
     print_row(
         rt,
@@ -35,7 +35,7 @@ pub(crate) fn print_map(
         since,
         last(&map, size),
     )?;
-    let since = Instant::now(rt)?;
+    let since = begin(rt, alloc)?;
     let map = with_each(alloc, size)?;
     print_row(
         rt,
@@ -45,10 +45,10 @@ pub(crate) fn print_map(
         since,
         last(&map, size),
     )?;
-    let since = Instant::now(rt)?;
+    let since = begin(rt, alloc)?;
     let made = changed(alloc, &map, size, false)?;
     print_row(rt, row, "pairs, 100 changed at once", TIMES, since, made)?;
-    let since = Instant::now(rt)?;
+    let since = begin(rt, alloc)?;
     let made = changed(alloc, &map, size, true)?;
     print_row(
         rt,

@@ -1,6 +1,11 @@
 // The lines that are printed.
+use crate::fault::Fault;
 use anyhow::Result;
+use std::alloc::Global;
 use std::time::{Clock, Instant};
+
+// How many bytes are taken before a time begins: more than the allocator keeps apart as small.
+const LARGE: usize = 65_536;
 
 // What a line is of.
 #[derive(Clone, Copy)]
@@ -9,6 +14,20 @@ pub(crate) struct Row {
     pub(crate) size: u64,
     // Whether times are printed.
     pub(crate) timed: bool,
+}
+
+// The time now. What was let go in small pieces before is first joined by the allocator, which it does when it is asked for a
+// large one: else the row that asks next pays for all of it.
+pub(crate) fn begin(rt: &impl Clock, alloc: Global) -> Result<Instant> {
+    settle(alloc)?;
+    Ok(Instant::now(rt)?)
+}
+
+// Takes a large piece of memory, and lets it go.
+fn settle(alloc: Global) -> Result<(), Fault> {
+    let mut bytes: Vec<u8> = Vec::with_capacity(alloc, LARGE)?;
+    bytes.push(0)?;
+    Ok(())
 }
 
 // Prints what so many calls since a time took each, or else how many of them found something.

@@ -6,9 +6,11 @@ ghost use Rattle.dg_delta.specs.Ops.{op_cmp};
 ghost use Rattle.dg_keys.specs.Keys.{part_cmp};
 ghost use Rattle.dg_list.specs.Lists.{newest_ts};
 
+use crate::beside::plain_puts;
 use crate::fault::Fault;
-use crate::rows::{Row, print_row};
-use crate::shuffle::shuffled;
+use crate::plain::PlainMap;
+use crate::rows::{Row, begin, print_row};
+use crate::shuffle::{drawn, shuffled};
 use anyhow::Result;
 use dg_delta::Op;
 use dg_keys::{Key, Part, Record};
@@ -16,7 +18,8 @@ use dg_sets::InOrder;
 use dg_store::Store;
 use dg_values::{List, Posting, Str};
 use std::alloc::Global;
-use std::time::{Clock, Instant};
+use std::sync::Arc;
+use std::time::Clock;
 
 // The predicate of all keys.
 const PRED: &str = "knows";
@@ -37,19 +40,34 @@ pub(crate) fn print_store(
     let row = Row { size, timed };
     let held = held(alloc)?;
     let rec = record(alloc, 1, 1, size)?;
-    let since = Instant::now(rt)?;
+    let since = begin(rt, alloc)?;
     let store = filled(alloc, &rec, held.as_slice())?;
     print_row(rt, row, "keys, the record that made them", 1, since, size)?;
     let keys = keys(alloc, size)?;
-    let since = Instant::now(rt)?;
+    // All keys are gone over once before the time begins, and in a plain map too: so it doesn't matter which was made last.
+    let _warm = look(&store, keys.as_slice());
+    let since = begin(rt, alloc)?;
     let found = look(&store, keys.as_slice());
     print_row(rt, row, "keys, get", LOOKED, since, found)?;
     let middle = size / 2;
     let rec = record(alloc, 2, middle, middle)?;
-    let since = Instant::now(rt)?;
+    let since = begin(rt, alloc)?;
     let found = change(alloc, &store, &rec, held.as_slice())?;
     print_row(rt, row, "keys, with_record of one", CHANGED, since, found)?;
-    Ok(())
+    print_plain(rt, alloc, row, keys.as_slice())
+}
+
+// Prints what the same keys cost in a plain map, where no record is read and no list is made.
+fn print_plain(rt: &(impl Print + Clock), alloc: Global, row: Row, keys: &[Key]) -> Result<()> {
+    let map = plain(alloc, row.size)?;
+    let _warm = look_plain(&map, keys);
+    let since = begin(rt, alloc)?;
+    let found = look_plain(&map, keys);
+    print_row(rt, row, "plain keys, get", LOOKED, since, found)?;
+    let puts = plain_puts(row.size);
+    let since = begin(rt, alloc)?;
+    let made = put_plain(alloc, &map, row.size / 2, puts)?;
+    print_row(rt, row, "plain keys, one put", puts, since, made)
 }
 
 // Prints what `with_record` of one key costs while a store grows to so many keys, which come in shuffled order.
@@ -61,7 +79,7 @@ pub(crate) fn print_filled(
 ) -> Result<()> {
     let row = Row { size, timed };
     let held = held(alloc)?;
-    let since = Instant::now(rt)?;
+    let since = begin(rt, alloc)?;
     let store = grown(alloc, size, held.as_slice())?;
     let last = key(alloc, size)?;
     let found = u64::from(store.get(&last).is_some());
@@ -89,6 +107,40 @@ fn grown(alloc: Global, size: u64, held: &[Str]) -> Result<Store, Fault> {
 // How many of the keys have a list.
 fn look(store: &Store, keys: &[Key]) -> u64 {
     keys.iter().filter(|key| store.get(key).is_some()).count() as u64
+}
+
+// How many of the keys are in a plain map.
+fn look_plain(map: &PlainMap<Key, u64>, keys: &[Key]) -> u64 {
+    keys.iter().filter(|key| map.get(key).is_some()).count() as u64
+}
+
+// A plain map of so many keys.
+fn plain(alloc: Global, size: u64) -> Result<PlainMap<Key, u64>, Fault> {
+    let mut pairs = Vec::new(alloc);
+    for before in 0..size {
+        let subject = before + 1;
+        pairs.push((
+            Arc::new(alloc, key(alloc, subject)?)?,
+            Arc::new(alloc, subject)?,
+        ))?;
+    }
+    Ok(PlainMap::of(pairs))
+}
+
+// How many times a subject's key, put into a plain map, made one.
+fn put_plain(
+    alloc: Global,
+    map: &PlainMap<Key, u64>,
+    subject: u64,
+    puts: u64,
+) -> Result<u64, Fault> {
+    let mut made: u64 = 0;
+    for _ in 0..puts {
+        let key = Arc::new(alloc, key(alloc, subject)?)?;
+        let _changed = map.with(alloc, key, Arc::new(alloc, subject)?)?;
+        made = made.saturating_add(1);
+    }
+    Ok(made)
 }
 
 // How many times the record gave a store in which its first key has a list.
@@ -138,8 +190,7 @@ fn put(alloc: Global, store: &Store, rec: &Record, held: &[Str]) -> Result<Store
 fn keys(alloc: Global, size: u64) -> Result<Vec<Key>, Fault> {
     let mut keys = Vec::new(alloc);
     for number in 0..LOOKED {
-        let drawn = number.wrapping_mul(0x9e37_79b9_7f4a_7c15) >> 30;
-        keys.push(key(alloc, (drawn % size.max(1)).wrapping_add(1))?)?;
+        keys.push(key(alloc, drawn(number, size))?)?;
     }
     Ok(keys)
 }

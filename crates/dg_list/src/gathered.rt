@@ -1,18 +1,19 @@
 // Operations gathered from layers, those of the newest layer first.
-ghost use Rattle.std.specs.Prelude.{◌≡◌, ◌++◌, IfOk, OnOk, map, false};
+ghost use Rattle.std.specs.Prelude.{◌≡◌, ◌++◌, IfOk, OnOk, false};
 ghost use Rattle.dg_values.specs.Ascending.{Ascends, has};
 ghost use Rattle.dg_values.specs.Order.{posting_cmp};
 ghost use Rattle.dg_delta.specs.Ops.{op_cmp};
 ghost use Rattle.dg_list.specs.Lists.{ops_upto};
 ghost use Rattle.dg_list.specs.Gathered.{SayAlike, there_by};
 
+use crate::ranked::{Ranked, unranked};
 use dg_delta::{Layer, Op, apply_owned, put_in};
-use dg_values::{Mem, OutOfMemory, Posting, cmp_posting};
+use dg_values::{Mem, OutOfMemory, Posting};
 use std::alloc::Global;
 
 // Adds the operations of an older layer, where it is at or below the timestamp.
-pub(crate) fn gather<'a>(ops: &mut Vec<&'a Op>, layer: &'a Layer, ts: u64) -> Mem<()>
-    ensures gathered { OnOk result (map (λ op. op.now) ops.new.items ≡ map (λ op. op.now) ops.old.items ++ ops_upto ts layer.now) }
+pub(crate) fn gather<'a>(ops: &mut Vec<Ranked<'a>>, layer: &'a Layer, ts: u64) -> Mem<()>
+    ensures gathered { OnOk result (ops.new.items ≡ ops.old.items ++ ops_upto ts layer.now) }
     ensures ascend { Ascends op_cmp (ops_upto ts layer.now) }
 {
     if layer.ts() <= ts {
@@ -22,22 +23,22 @@ pub(crate) fn gather<'a>(ops: &mut Vec<&'a Op>, layer: &'a Layer, ts: u64) -> Me
 }
 
 // Adds the operations at the end.
-fn push_each<'a>(ops: &mut Vec<&'a Op>, more: &'a [Op]) -> Mem<()>
-    ensures { OnOk result (map (λ op. op.now) ops.new.items ≡ map (λ op. op.now) ops.old.items ++ more.now) }
+fn push_each<'a>(ops: &mut Vec<Ranked<'a>>, more: &'a [Op]) -> Mem<()>
+    ensures { OnOk result (ops.new.items ≡ ops.old.items ++ more.now) }
 {
     for op in more {
-        ops.push(op)?;
+        ops.push(Ranked::new(op))?;
     }
     Ok(())
 }
 
 // The newest operation on each posting, ascending by posting.
-fn newest_ops<'a>(mut ops: Vec<&'a Op>) -> Mem<Vec<&'a Op>>
-    ensures alike { IfOk result (λ newest. SayAlike (map (λ op. op.now) ops.entry.items) (map (λ op. op.now) newest.items)) }
-    ensures ascend { IfOk result (λ newest. Ascends op_cmp (map (λ op. op.now) newest.items)) }
+fn newest_ops<'a>(mut ops: Vec<Ranked<'a>>) -> Mem<Vec<Ranked<'a>>>
+    ensures alike { IfOk result (λ newest. SayAlike ops.entry.items newest.items) }
+    ensures ascend { IfOk result (λ newest. Ascends op_cmp newest.items) }
 {
-    ops.sort_by(|a, b| cmp_posting(a.posting(), b.posting()))?;
-    ops.dedup_by(|a, b| cmp_posting(a.posting(), b.posting()).is_eq());
+    ops.sort_by(|a, b| a.compare(b))?;
+    ops.dedup_by(|a, b| a.compare(b).is_eq());
     Ok(ops)
 }
 
@@ -45,26 +46,27 @@ fn newest_ops<'a>(mut ops: Vec<&'a Op>) -> Mem<Vec<&'a Op>>
 pub(crate) fn after_gathered(
     alloc: Global,
     postings: Vec<Posting>,
-    ops: Vec<&Op>,
+    ops: Vec<Ranked>,
 ) -> Mem<Vec<Posting>>
     requires { Ascends posting_cmp postings.items }
-    ensures after { IfOk result (λ list. (posting : Posting) → has posting_cmp list.items posting ≡ there_by (map (λ op. op.now) ops.entry.items) posting (has posting_cmp postings.items posting)) }
+    ensures after { IfOk result (λ list. (posting : Posting) → has posting_cmp list.items posting ≡ there_by ops.entry.items posting (has posting_cmp postings.items posting)) }
     ensures ascend { IfOk result (λ list. Ascends posting_cmp list.items) }
 {
     if ops.is_empty() {
         return Ok(postings);
     }
-    let newest = newest_ops(ops)?;
+    let ranked = newest_ops(ops)?;
+    let newest = unranked(alloc, ranked.as_slice())?;
     apply_owned(alloc, postings, newest.as_slice())
 }
 
 // The list where a layer stands alone below operations that were gathered. Without these it is what the layer puts in.
 pub(crate) fn after_alone<'a>(
     alloc: Global,
-    mut ops: Vec<&'a Op>,
+    mut ops: Vec<Ranked<'a>>,
     layer: &'a Layer,
 ) -> Mem<Vec<Posting>>
-    ensures after { IfOk result (λ list. (posting : Posting) → has posting_cmp list.items posting ≡ there_by (map (λ op. op.now) ops.entry.items ++ layer.now.ops) posting false) }
+    ensures after { IfOk result (λ list. (posting : Posting) → has posting_cmp list.items posting ≡ there_by (ops.entry.items ++ layer.now.ops) posting false) }
     ensures ascend { IfOk result (λ list. Ascends posting_cmp list.items) }
     ensures layer { Ascends op_cmp layer.now.ops }
 {

@@ -5,5 +5,6 @@ mod covering;
 mod deciding;
 mod gathered;
 mod plist;
+mod ranked;
 
 pub use plist::PList;

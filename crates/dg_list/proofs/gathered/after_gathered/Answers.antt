@@ -12,11 +12,12 @@ use Rattle.dg_list.proofs.gathered.after_gathered.Goals as goal
 pub returns-clause-after : goal.returns-clause-after
 returns-clause-after c =
     let postings = c.args.postings.items in
-    let newest = map (λ op. op.now) c.in_ok-newest.newest.items in
-    IfOk-weaker c.apply_owned.result (λ list. list.items ≡ after_ops postings (map (λ op. op.now) c.as_slice.result.now)) (λ list. (q : Posting) → has posting_cmp list.items q ≡ there_by (map (λ op. op.now) c.args.ops.items) q (has posting_cmp postings q))
+    let newest = c.in_ok-ranked.ranked.items in
+    let same : map (λ op. op.now) c.as_slice-2.result.now ≡ newest = ap (map (λ op. op.now)) c.as_slice-2.ensures.value ∙ c.in_ok-newest.ensures ∙ c.as_slice.ensures.value in
+    IfOk-weaker c.apply_owned.result (λ list. list.items ≡ after_ops postings (map (λ op. op.now) c.as_slice-2.result.now)) (λ list. (q : Posting) → has posting_cmp list.items q ≡ there_by c.args.ops.items q (has posting_cmp postings q))
     (λ list is q.
-    ap (λ xs. has posting_cmp xs q) (is ∙ ap (λ ops. after_ops postings (map (λ op. op.now) ops)) c.as_slice.ensures.value)
+    ap (λ xs. has posting_cmp xs q) (is ∙ ap (after_ops postings) same)
     ∙ has_after newest postings q
-    ∙ said_in_turn newest q (has posting_cmp postings q) c.in_ok-newest.ensures.ascend
-    ∙ c.in_ok-newest.ensures.alike q (has posting_cmp postings q))
+    ∙ said_in_turn newest q (has posting_cmp postings q) c.in_ok-ranked.ensures.ascend
+    ∙ c.in_ok-ranked.ensures.alike q (has posting_cmp postings q))
     c.apply_owned.ensures.after

@@ -1,5 +1,5 @@
-use Rattle.std.proofs.Common.{◌≡◌, ◌++◌, take, map}
+use Rattle.std.proofs.Common.{◌≡◌, ◌++◌, take}
 use Rattle.dg_list.proofs.gathered.push_each.Given as goal
 
 abbrev pub invariant-loop-op : goal.invariant-loop-op
-invariant-loop-op l = map (λ op. op.now) l.ops.items ≡ map (λ op. op.now) l.initial.ops.items ++ take l.op-index l.more
+invariant-loop-op l = l.ops.items ≡ l.initial.ops.items ++ take l.op-index l.more

@@ -1,4 +1,4 @@
-use Rattle.std.proofs.Common.{◌≡◌, ◌≤◌, ◌∙◌, sym, ap, subst, refl, length, false, map, ◌++◌}
+use Rattle.std.proofs.Common.{◌≡◌, ◌≤◌, ◌∙◌, sym, ap, subst, refl, length, false, ◌++◌}
 use Rattle.std.specs.Arc.{arc_value}
 use Rattle.dg_values.specs.Ascending.{Ascends, has}
 use Rattle.dg_values.specs.Order.{posting_cmp}
@@ -20,7 +20,7 @@ pub returns-in-Rolled-clause-list : goal.returns-in-Rolled-clause-list
 returns-in-Rolled-clause-list c =
     let self = c.args.self.now in
     let ts = c.args.ts in
-    let ops = map (λ op. op.now) c.loop-list.ops.items in
+    let ops = c.loop-list.ops.items in
     let is = ap list_of (sym c.in-Rolled.is) ∙ c.list.view_is in
     let sound = c.loop-list.invariant.sound (subst IsSound c.list.view_is c.list.invariant.sound) in
     let len : c.len.result ≡ length c.deref.result.now = c.len.ensures.len ∙ ap length (c.deref-in-Rolled.ensures ∙ sym c.deref.ensures) in
@@ -48,13 +48,13 @@ returns-then-ts-clause-list c =
     let alone = subst IsTrueOfLink c.in-Over.is c.list.invariant.alone c.if-alone.true in
     let within : l.ts ≤ ts = rw (c.ts.ensures, c.deref-then-alone.ensures) at c.if-ts.true in
     if_ok_both c.after_alone.result
-    (λ list. (q : Posting) → has posting_cmp list.items q ≡ there_by (map (λ op. op.now) c.loop-list.ops.items ++ c.deref-then-ts.result.now.ops) q false)
+    (λ list. (q : Posting) → has posting_cmp list.items q ≡ there_by (c.loop-list.ops.items ++ c.deref-then-ts.result.now.ops) q false)
     (λ list. Ascends posting_cmp list.items)
     (λ list. list.items ≡ reading self ts)
     (λ list after ascend. read_gathered self ts list.items (c.loop-list.invariant.sound sound) ascend (λ q.
     after q
-    ∙ ap (λ (x : Changes). there_by (map (λ op. op.now) c.loop-list.ops.items ++ x.ops) q false) c.deref-then-ts.ensures
-    ∙ sym (gathered_alone c.loop-list.list.now w l is sound ts (map (λ op. op.now) c.loop-list.ops.items) (rw c.deref-then-ts.ensures at c.after_alone.ensures.layer) within alone q)
+    ∙ ap (λ (x : Changes). there_by (c.loop-list.ops.items ++ x.ops) q false) c.deref-then-ts.ensures
+    ∙ sym (gathered_alone c.loop-list.list.now w l is sound ts c.loop-list.ops.items (rw c.deref-then-ts.ensures at c.after_alone.ensures.layer) within alone q)
     ∙ sym (c.loop-list.invariant.so_far q)))
     c.after_alone.ensures.after
     c.after_alone.ensures.ascend
@@ -69,6 +69,6 @@ loop-list-preserved c =
       sound = λ s. c.loop-list.invariant.sound sound;
       so_far = λ q.
           c.loop-list.invariant.so_far q
-          ∙ gathered_down c.loop-list.list.now w l is sound c.args.ts (map (λ op. op.now) c.loop-list.ops.items) (rw c.deref-in-Over.ensures at c.in_ok-gather-in-Over.ensures.ascend) q
+          ∙ gathered_down c.loop-list.list.now w l is sound c.args.ts c.loop-list.ops.items (rw c.deref-in-Over.ensures at c.in_ok-gather-in-Over.ensures.ascend) q
           ∙ ap (λ xs. there_by xs q (has posting_cmp (reading w c.args.ts) q)) (sym (rw c.deref-in-Over.ensures at c.in_ok-gather-in-Over.ensures.gathered));
     }

@@ -1,4 +1,4 @@
-use Rattle.std.proofs.Common.{◌≡◌, map}
+use Rattle.std.proofs.Common.{◌≡◌}
 use Rattle.dg_values.specs.Ascending.{has}
 use Rattle.dg_values.specs.Order.{posting_cmp}
 use Rattle.dg_values.specs.declared.value.Posting.{Posting}
@@ -9,5 +9,5 @@ use Rattle.dg_list.proofs.plist.PList.list_at.Given as goal
 abbrev pub invariant-loop-list : goal.invariant-loop-list
 invariant-loop-list l = record {
   sound : IsSound l.list → IsSound l.self;
-  so_far : (posting : Posting) → has posting_cmp (reading l.self l.ts) posting ≡ there_by (map (λ op. op.now) l.ops.items) posting (has posting_cmp (reading l.list l.ts) posting);
+  so_far : (posting : Posting) → has posting_cmp (reading l.self l.ts) posting ≡ there_by l.ops.items posting (has posting_cmp (reading l.list l.ts) posting);
 }

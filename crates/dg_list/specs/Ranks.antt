@@ -1,0 +1,14 @@
+-- Numbers by which postings are sorted before they are compared.
+use Rattle.std.specs.Prelude.{◌≡◌, ◌<◌, ◌-◌, ◌^◌, ℕ}
+use Rattle.dg_values.specs.declared.value.Posting.{Posting}
+use Rattle.dg_values.specs.declared.value.Posting.TheVariants.{Uid, Val}
+
+-- a node's number, and for values, which come after all nodes, the greatest
+abbrev pub rank_of : Posting → ℕ
+rank_of (Uid node) = node
+rank_of (Val value) = 2 ^ 64 - 1
+
+-- the rank of a posting, in eight bytes
+pub record IsRank (rank : ℕ) (posting : Posting) : Type 0 where
+  pub is : rank ≡ rank_of posting
+  pub fits : rank < 2 ^ 64
