@@ -1,0 +1,3 @@
+-- What the proofs of the grammar share.
+pub mod Few
+pub mod OwnKeys
