@@ -89,7 +89,8 @@ fn query_tokens(alloc: Global, text: &str, tokens: &[Token]) -> Result<Query, Dq
 /// Offsets are in bytes. `BadToken` has that of the first byte that begins no token, blank or comment, and is told before
 /// all else. `TooDeep` has that of the first token after which more than 32 of `{`, `(` and `[` stand open, those that were
 /// opened less those that were closed, and is told before `BadSyntax`. `BadSyntax` has that of the first token that the
-/// grammar or a case beside it doesn't allow, or the length of the text where it ends too early.
+/// grammar or a case beside it doesn't allow, or the length of the text where it ends too early. `OutOfMemory` can come in
+/// place of the query or of another fault. The text is only read, and an `Err` leaves nothing behind.
 pub fn parse(alloc: Global, text: &str) -> Result<Query, DqlFault>
     requires { length text.now ≤ 1048576 }
     ensures { Reads result (query_of text.now) }
@@ -133,7 +134,7 @@ fn upsert_tokens(alloc: Global, text: &str, tokens: &[Token]) -> Result<Upsert, 
 }
 
 /// The upsert block of a text, as the grammar gives it: a query and the mutations that use its variables. Its faults are
-/// those of [`parse`].
+/// those of [`parse`], and an `Err` leaves nothing behind.
 pub fn parse_upsert(alloc: Global, text: &str) -> Result<Upsert, DqlFault>
     requires { length text.now ≤ 1048576 }
     ensures { Reads result (upsert_of text.now) }
