@@ -14,3 +14,4 @@ pub mod Grammar
 pub mod Conditions
 pub mod Upsert
 pub mod Whole
+pub mod Depth

@@ -9,6 +9,7 @@
 mod arguments;
 mod blocks;
 mod conditions;
+mod depth;
 mod directives;
 mod fault;
 mod fields;
@@ -28,6 +29,7 @@ mod upsert;
 mod upserts;
 mod words;
 
+pub use depth::depth_is_never_met;
 pub use fault::DqlFault;
 pub use query::{
     AggOp, CmpOp, QArg, QBlock, QDir, QEdge, QField, QFilter, QFunc, QItem, QOf, QOpt, QOrder,
