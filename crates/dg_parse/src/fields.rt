@@ -13,9 +13,7 @@ ghost use Rattle.dg_parse.specs.Sizes.{AreFew};
 use crate::arguments::any_args_at;
 use crate::directives::{Marks, Owner, dirs_at};
 use crate::fronts::{aggregate_begins, field_begins, front_at, past_comma};
-use crate::items::{
-    Around, Start, agg_item_at, count_item_at, refuse_key, uid_item_at, val_item_at,
-};
+use crate::items::{Around, Start, agg_item_at, count_item_at, uid_item_at, val_item_at};
 use crate::keys::key_of_edge;
 use crate::listed::Fields;
 use crate::names::edge_at;
@@ -39,8 +37,12 @@ fn refuse_edge(
     ensures made { IfOk result (λ q. q ≡ refused_at p s.place (not s.has_alias && is_key before.now (edge_text edge.now))) }
     ensures memory { IfErr result (λ e. e ≡ errors.OutOfMemory) }
 {
-    let key = key_of_edge(alloc, edge)?;
-    Ok(refuse_key(s, before, key, p))
+    let second = if edge.back {
+        before.has_key(&key_of_edge(alloc, edge)?)
+    } else {
+        before.has_key(&edge.pred)
+    };
+    Ok(refuse(p, s.place, !s.has_alias && second))
 }
 
 // The directives of an edge.
