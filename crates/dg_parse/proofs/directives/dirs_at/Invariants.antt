@@ -1,0 +1,11 @@
+use Rattle.std.proofs.Common.{◌≡◌, ◌-◌}
+use Rattle.dg_text.specs.Reading.{turns}
+use Rattle.dg_text.specs.Tokens.{toks}
+use Rattle.dg_text.specs.Cases.{upon, repeated, left_of}
+use Rattle.dg_parse.specs.Directives.{begins_dir, dir, unmarked}
+use Rattle.dg_parse.proofs.directives.dirs_at.Given as goal
+
+abbrev pub invariant-loop : goal.invariant-loop
+invariant-loop l =
+    turns (l.most - l.counter) (upon (begins_dir)) (dir l.owner) l.all (left_of (toks l.tokens) l.p)
+    ≡ repeated (begins_dir) (dir l.fn.owner) unmarked (left_of (toks l.fn.tokens) l.fn.start)

@@ -1,0 +1,114 @@
+// What texts say, or why they say nothing.
+ghost use Rattle.std.specs.Prelude.{◌≤◌, length};
+
+use crate::MOST;
+use crate::blocks::push_query;
+use crate::conditions::push_upsert;
+use crate::pictures::{pictured, plain};
+use dg_parse::{DqlFault, parse, parse_upsert};
+use dg_values::Mem;
+use std::alloc::Global;
+use std::fmt::Write;
+use std::str;
+
+// The query of a text, or its fault.
+pub(crate) fn query(alloc: Global, text: &str) -> Mem<Option<String>>
+    requires { length text.now ≤ 1048576 }
+{
+    match parse(alloc, text) {
+        Ok(query) => {
+            let mut out = String::new(alloc);
+            push_query(alloc, &mut out, &query)?;
+            Ok(Some(pictured(alloc, out.as_str())?))
+        }
+        Err(fault) => Ok(Some(fault.to_string(alloc)?)),
+    }
+}
+
+// The upsert block of a text, or its fault.
+pub(crate) fn upsert(alloc: Global, text: &str) -> Mem<Option<String>>
+    requires { length text.now ≤ 1048576 }
+{
+    match parse_upsert(alloc, text) {
+        Ok(upsert) => {
+            let mut out = String::new(alloc);
+            push_upsert(alloc, &mut out, &upsert)?;
+            Ok(Some(pictured(alloc, out.as_str())?))
+        }
+        Err(fault) => Ok(Some(fault.to_string(alloc)?)),
+    }
+}
+
+// What is said of each front of a query but the empty and the whole one, in turn.
+pub(crate) fn cut(alloc: Global, text: &str) -> Mem<Option<String>> {
+    let bytes = text.as_bytes();
+    let mut list = String::new(alloc);
+    for end in 1..bytes.len() {
+        let word = match str::from_utf8(&bytes[..end]) {
+            Ok(front) => front_text(alloc, front)?,
+            Err(_) => String::from_str(alloc, "-")?,
+        };
+        write!(list, "{word} ")?;
+    }
+    list.push_str("end")?;
+    Ok(Some(list))
+}
+
+fn front_text(alloc: Global, front: &str) -> Mem<String> {
+    if front.len() > MOST {
+        return Ok(String::from_str(alloc, "long")?);
+    }
+    match parse(alloc, front) {
+        Ok(_) => Ok(String::from_str(alloc, "read")?),
+        Err(fault) => short(alloc, fault),
+    }
+}
+
+// A letter for what is wrong, and the offset.
+fn short(alloc: Global, fault: DqlFault) -> Mem<String> {
+    match fault {
+        DqlFault::BadToken { offset } => Ok(format!(in alloc; "T{offset}")?),
+        DqlFault::TooDeep { offset } => Ok(format!(in alloc; "D{offset}")?),
+        DqlFault::BadSyntax { offset } => Ok(format!(in alloc; "S{offset}")?),
+        DqlFault::OutOfMemory => Ok(String::from_str(alloc, "memory")?),
+    }
+}
+
+// What is said of a front, a piece so many times, and a back, by these four fields.
+pub(crate) fn repeated(alloc: Global, fields: &str) -> Mem<Option<String>> {
+    let Some((front, rest)) = fields.split_once('\t') else {
+        return Ok(None);
+    };
+    let Some((piece, rest)) = rest.split_once('\t') else {
+        return Ok(None);
+    };
+    let Some((count, back)) = rest.split_once('\t') else {
+        return Ok(None);
+    };
+    let Ok(count) = count.parse::<u32>() else {
+        return Ok(None);
+    };
+    let mut text = plain(alloc, front)?;
+    push_times(&mut text, plain(alloc, piece)?.as_str(), count)?;
+    text.push_str(plain(alloc, back)?.as_str())?;
+    whole_text(alloc, text.as_str())
+}
+
+// A piece so many times, or as many as fit a text.
+fn push_times(text: &mut String, piece: &str, count: u32) -> Mem<()> {
+    for _ in 0..count {
+        if text.len() > MOST {
+            return Ok(());
+        }
+        text.push_str(piece)?;
+    }
+    Ok(())
+}
+
+fn whole_text(alloc: Global, text: &str) -> Mem<Option<String>> {
+    if text.len() > MOST {
+        return Ok(None);
+    }
+    let word = front_text(alloc, text)?;
+    Ok(Some(format!(in alloc; "{word} of {}", text.len())?))
+}
