@@ -1,3 +1,9 @@
 -- What the proofs of the grammar share.
 pub mod Few
 pub mod OwnKeys
+pub mod Formed
+pub mod Again
+pub mod FixedWords
+pub mod NamesAgain
+pub mod Lists
+pub mod LiteralsAgain
