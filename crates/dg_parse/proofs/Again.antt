@@ -201,3 +201,7 @@ passes r more a e = record {
 pub as_reader : {A : Type 0} {r : Reader A} {x : A} {ws : List Word} {bars : List Tok → Bool} (s : Reader A) → Reads r x ws bars
     → ((f : ℕ → ℕ) (rest : List Tok) → bars rest ≡ false → s (at (on f ws rest)) ≡ r (at (on f ws rest))) → Reads s x ws bars
 as_reader s a e = record { words = a.words; again = λ f rest b. e f rest b ∙ a.again f rest b }
+
+-- what nothing bars, nothing bars
+pub unbarred : {A : Type 0} {r : Reader A} {x : A} {ws : List Word} {bars : List Tok → Bool} → Reads r x ws never → Reads r x ws bars
+unbarred a = record { words = a.words; again = λ f rest e. a.again f rest refl }

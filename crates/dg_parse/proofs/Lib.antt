@@ -7,3 +7,4 @@ pub mod FixedWords
 pub mod NamesAgain
 pub mod Lists
 pub mod LiteralsAgain
+pub mod FunctionsAgain

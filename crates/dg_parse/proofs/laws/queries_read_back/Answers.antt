@@ -1,5 +1,5 @@
 use Rattle.std.proofs.Common.{refl}
-use Rattle.dg_parse.proofs.LiteralsAgain.{at_uids}
+use Rattle.dg_parse.proofs.FunctionsAgain.{func_reads}
 use Rattle.dg_parse.specs.PrintedQuery.{query_text}
 use Rattle.dg_parse.proofs.laws.queries_read_back.Goals as goal
 
