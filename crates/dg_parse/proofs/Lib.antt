@@ -8,3 +8,4 @@ pub mod NamesAgain
 pub mod Lists
 pub mod LiteralsAgain
 pub mod FunctionsAgain
+pub mod FilterWords
