@@ -116,7 +116,7 @@ abbrev pub IsOr : (QFilter → Type 0) → QFilter → Type 0
 IsOr inner f = or_case inner f.part (out-QPart f.part) f.nots
 
 -- a filter that is read with brackets at most so deep
-pub IsFilter : ℕ → QFilter → Type 0
+unfoldable pub IsFilter : ℕ → QFilter → Type 0
 IsFilter zero f = ⊥
 IsFilter (suc depth) f = IsOr (λ g. IsFilter depth g) f
 

@@ -9,3 +9,4 @@ pub mod Lists
 pub mod LiteralsAgain
 pub mod FunctionsAgain
 pub mod FilterWords
+pub mod FiltersAgain

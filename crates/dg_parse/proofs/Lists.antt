@@ -54,11 +54,11 @@ pub record Repeats {E : Type 0} (begins : List Tok → Bool) (reader : List E �
   pub clear : (before : List E) (x : E) → Item before x → (f : ℕ → ℕ) (rest : List Tok) → bars (on f (words_of x) rest) ≡ false
   pub some : (before : List E) (x : E) → Item before x → 0 < length (words_of x)
 
-or_first : (a b : Bool) → (a || b) ≡ false → a ≡ false
+pub or_first : (a b : Bool) → (a || b) ≡ false → a ≡ false
 or_first false b e = refl
 or_first true b e = e
 
-or_second : (a b : Bool) → (a || b) ≡ false → b ≡ false
+pub or_second : (a b : Bool) → (a || b) ≡ false → b ≡ false
 or_second false b e = e
 or_second true b e = absurd (false≢true (sym e))
 
@@ -103,3 +103,40 @@ module _ {E : Type 0} (begins : List Tok → Bool) (reader : List E → Reader (
         turns_again (length (on f (flat_map words_of xs) rest)) before xs f rest i (omega (arith, on_length f (flat_map words_of xs) rest, no_fewer before xs i))
         (or_first (begins rest) (bars rest) e) (or_second (begins rest) (bars rest) e);
   }
+
+-- one or more were read
+pub record AddedSome {E : Type 0} (Item : List E → E → Type 0) (before all : List E) : Type 0 where
+  pub item : E
+  pub more : List E
+  pub is : all ≡ before ++ item ∷ more
+  pub good : Items Item before (item ∷ more)
+
+added_some : {E : Type 0} (Item : List E → E → Type 0) (before mid all : List E) → Added Item before mid → AddedAll Item mid all → AddedSome Item before all
+added_some Item before mid all a m = record {
+  item = a.item;
+  more = m.items;
+  is = m.is ∙ ap (λ l. l ++ m.items) a.is ∙ append_assoc before (a.item ∷ []) m.items;
+  good = (a.good, subst (λ (l : List _). Items Item l m.items) a.is m.good);
+}
+
+-- where one begins
+pub at_repeated_some : {E : Type 0} (begins : List Tok → Bool) (reader : List E → Reader (List E)) (Item : List E → E → Type 0)
+    → ((before : List E) (l : Left) → Each l (reader before l) (λ all k. Added Item before all))
+    → begins [] ≡ false → (before : List E) (left : Left) → begins left.tokens ≡ true → Each left (repeated begins reader before left) (λ all k. AddedSome Item before all)
+unfolding turns
+at_repeated_some {E = E} begins reader Item one none before left b = by left.tokens refl
+  where
+    by : (tokens : List Tok) → left.tokens ≡ tokens → Each left (turns (length tokens) (upon begins) reader before left) (λ all k. AddedSome Item before all)
+    by [] e = absurd (false≢true (sym none ∙ ap begins (sym e) ∙ b))
+    by (t ∷ rest) e = rw b (bind (turns (length rest) (upon begins) reader) (one before left)
+        (λ mid k. weaker (at_turns begins reader Item one (length rest) mid k) (λ all l more added. added_some Item before mid all added more)))
+
+-- what is read again and again leaves formed tokens
+pub at_any_turns : {A : Type 0} (begins : List Tok → Bool) (reader : A → Reader A) → ((before : A) (l : Left) → Each l (reader before l) (λ _ _. Unit {0}))
+    → (n : ℕ) (before : A) (left : Left) → Each left (turns n (upon begins) reader before left) (λ _ _. Unit {0})
+unfolding turns
+at_any_turns begins reader one zero before left = gives before left tt
+at_any_turns begins reader one (suc n) before left =
+    either (begins left.tokens)
+    (λ b. bind (turns n (upon begins) reader) (one before left) (λ mid k. weaker (at_any_turns begins reader one n mid k) (λ all l _ _. tt)))
+    (λ b. gives before left tt)
