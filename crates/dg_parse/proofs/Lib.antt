@@ -10,3 +10,4 @@ pub mod LiteralsAgain
 pub mod FunctionsAgain
 pub mod FilterWords
 pub mod FiltersAgain
+pub mod ArgumentsAgain

@@ -1,6 +1,7 @@
 -- What is read again and again, is printed and is read again.
 use Rattle.std.proofs.Common.{◌≡◌, ℕ, zero, suc, ◌<◌, ◌≤◌, ◌+◌, Bool, true, false, ◌||◌, List, [], ◌∷◌, ◌++◌, length, flat_map, ap, refl, sym, ◌∙◌, subst, append_assoc, append-nil, arith, length-append}
 use Rattle.std.specs.Prelude.{Result, Ok, Err, if◌then◌else◌}
+use Rattle.std.specs.List.{AllByRecursion}
 use Rattle.std.proofs.lemmas.Bool.{false≢true}
 use Rattle.dg_text.specs.Cases.{Left, Reader, upon, repeated}
 use Rattle.dg_text.specs.Reading.{Read, and_then, turns}
@@ -140,3 +141,12 @@ at_any_turns begins reader one (suc n) before left =
     either (begins left.tokens)
     (λ b. bind (turns n (upon begins) reader) (one before left) (λ mid k. weaker (at_any_turns begins reader one n mid k) (λ all l _ _. tt)))
     (λ b. gives before left tt)
+
+-- what holds of each by itself
+pub all_of : {E : Type 0} (P : E → Type 0) (before xs : List E) → Items (λ _ x. P x) before xs → AllByRecursion P xs
+all_of P before [] i = tt
+all_of P before (x ∷ xs) i = (i.0, all_of P (before ++ x ∷ []) xs i.1)
+
+pub items_of : {E : Type 0} (P : E → Type 0) (before xs : List E) → AllByRecursion P xs → Items (λ _ x. P x) before xs
+items_of P before [] a = tt
+items_of P before (x ∷ xs) a = (a.0, items_of P (before ++ x ∷ []) xs a.1)
