@@ -11,3 +11,5 @@ pub mod FunctionsAgain
 pub mod FilterWords
 pub mod FiltersAgain
 pub mod ArgumentsAgain
+pub mod OptionsAgain
+pub mod DirectivesAgain

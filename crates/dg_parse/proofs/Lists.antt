@@ -63,7 +63,7 @@ pub or_second : (a b : Bool) → (a || b) ≡ false → b ≡ false
 or_second false b e = e
 or_second true b e = absurd (false≢true (sym e))
 
-on_length : (f : ℕ → ℕ) (ws : List Word) (rest : List Tok) → length (on f ws rest) ≡ length ws + length rest
+pub on_length : (f : ℕ → ℕ) (ws : List Word) (rest : List Tok) → length (on f ws rest) ≡ length ws + length rest
 on_length f [] rest = omega arith
 on_length f (w ∷ ws) rest = omega (arith, on_length (λ n. f (suc n)) ws rest)
 
