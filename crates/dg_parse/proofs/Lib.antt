@@ -13,3 +13,6 @@ pub mod FiltersAgain
 pub mod ArgumentsAgain
 pub mod OptionsAgain
 pub mod DirectivesAgain
+pub mod FieldWords
+pub mod FieldsRead
+pub mod FieldsAgain
