@@ -52,7 +52,7 @@ agg_fixed aggregates.Min = fixed (codes "min") refl
 agg_fixed aggregates.Max = fixed (codes "max") refl
 agg_fixed aggregates.Sum = fixed (codes "sum") refl
 
-agg_means : (op : AggOp) (start : ℕ) → aggregate_meant (tok_from start (name_word (aggregate_word op))) ≡ Some op
+pub agg_means : (op : AggOp) (start : ℕ) → aggregate_meant (tok_from start (name_word (aggregate_word op))) ≡ Some op
 agg_means aggregates.Min start = refl
 agg_means aggregates.Max start = refl
 agg_means aggregates.Sum start = refl
@@ -75,20 +75,172 @@ or_second : (a b : Bool) → (a || b) ≡ false → b ≡ false
 or_second false b e = e
 or_second true b e = absurd (false≢true (sym e))
 
+kept8 : (a b c d e f g h : Bool) → (a || b || c || d || e || f || g || h) ≡ false → (a ≡ false) × (b ≡ false) × (c ≡ false) × (d ≡ false) × (e ≡ false) × (f ≡ false) × (g ≡ false)
+kept8 a b c d e f g h n =
+    let n7 = or_first (a || b || c || d || e || f || g) h n in
+    let n6 = or_first (a || b || c || d || e || f) g n7 in
+    let n5 = or_first (a || b || c || d || e) f n6 in
+    let n4 = or_first (a || b || c || d) e n5 in
+    let n3 = or_first (a || b || c) d n4 in
+    let n2 = or_first (a || b) c n3 in
+    (or_first a b n2, or_second a b n2, or_second (a || b) c n3, or_second (a || b || c) d n4, or_second (a || b || c || d) e n5, or_second (a || b || c || d || e) f n6, or_second (a || b || c || d || e || f) g n7)
+
 not_kept : (p : List ℕ) → IsPred p → NotKept p
 not_kept p h =
-    let e1 = or_second (bytes_eq p (codes "uid")) _ h.free in
-    let e2 = or_second (bytes_eq p (codes "count")) _ e1 in
-    let e3 = or_second (bytes_eq p (codes "val")) _ e2 in
-    let e4 = or_second (bytes_eq p (codes "min")) _ e3 in
-    let e5 = or_second (bytes_eq p (codes "max")) _ e4 in
-    let e6 = or_second (bytes_eq p (codes "sum")) _ e5 in
-    record {
-      uid = or_first (bytes_eq p (codes "uid")) _ h.free;
-      count = or_first (bytes_eq p (codes "count")) _ e1;
-      val = or_first (bytes_eq p (codes "val")) _ e2;
-      min = or_first (bytes_eq p (codes "min")) _ e3;
-      max = or_first (bytes_eq p (codes "max")) _ e4;
-      sum = or_first (bytes_eq p (codes "sum")) _ e5;
-      as_word = or_first (bytes_eq p (codes "as")) _ e6;
-    }
+    let k = kept8 (bytes_eq p (codes "uid")) (bytes_eq p (codes "count")) (bytes_eq p (codes "val")) (bytes_eq p (codes "min")) (bytes_eq p (codes "max")) (bytes_eq p (codes "sum")) (bytes_eq p (codes "as")) (bytes_eq p (codes "expand")) h.free in
+    record { uid = k.0; count = k.1; val = k.2; min = k.3; max = k.4; sum = k.5; as_word = k.6 }
+
+-- a Name as a predicate is no aggregate's word
+no_agg : (p : List ℕ) → IsPred p → (start : ℕ) → aggregate_meant (tok_from start (name_word p)) ≡ None
+no_agg p h start = let k = not_kept p h in rw (k.min, k.max, k.sum) refl
+
+-- the comma behind an item
+abbrev comma_tok : ℕ → Tok
+comma_tok start = tok_from start (mark_word comma)
+
+-- what an item begins with
+layer_aggregate : (o : Layer) (b : Around) (I : List QField → Type 0) (hv ha : Bool) (before : List QField) → IsLayer b I hv ha before o → (f : ℕ → ℕ) (rest : List Tok) → begins_aggregate (on f (layer_words o) rest) ≡ agg_layer o
+layer_aggregate QItem-F.Uid b I hv ha before h f rest = refl
+layer_aggregate QItem-F.CountUid b I hv ha before h f rest = refl
+layer_aggregate (QItem-F.Count e) b I hv ha before h f rest = refl
+layer_aggregate (QItem-F.Val x) b I hv ha before h f rest = refl
+layer_aggregate (QItem-F.Agg op x) b I hv ha before h f rest = rw (agg_means op (f 0)) refl
+layer_aggregate (QItem-F.Edge e args dirs fields) b I hv ha before h f rest = by e.back refl
+  where
+    by : (back : Bool) → e.back ≡ back → begins_aggregate (on f (layer_words (QItem-F.Edge e args dirs fields)) rest) ≡ false
+    by true k = rw k refl
+    by false k = rw (k, no_agg e.pred h.pred (f 0)) refl
+
+layer_other : (o : Layer) (b : Around) (I : List QField → Type 0) (hv ha : Bool) (before : List QField) → IsLayer b I hv ha before o → (f : ℕ → ℕ) (rest : List Tok) → begins_other (on f (layer_words o) rest) ≡ not (agg_layer o)
+layer_other QItem-F.Uid b I hv ha before h f rest = refl
+layer_other QItem-F.CountUid b I hv ha before h f rest = refl
+layer_other (QItem-F.Count e) b I hv ha before h f rest = refl
+layer_other (QItem-F.Val x) b I hv ha before h f rest = refl
+layer_other (QItem-F.Agg op x) b I hv ha before h f rest = rw (agg_means op (f 0)) refl
+layer_other (QItem-F.Edge e args dirs fields) b I hv ha before h f rest = by e.back refl
+  where
+    by : (back : Bool) → e.back ≡ back → begins_other (on f (layer_words (QItem-F.Edge e args dirs fields)) rest) ≡ true
+    by true k = rw k refl
+    by false k = rw (k, no_agg e.pred h.pred (f 0)) refl
+
+layer_begins : (o : Layer) (f : ℕ → ℕ) (rest : List Tok) → begins_field (on f (layer_words o) rest) ≡ true
+layer_begins QItem-F.Uid f rest = refl
+layer_begins QItem-F.CountUid f rest = refl
+layer_begins (QItem-F.Count e) f rest = refl
+layer_begins (QItem-F.Val x) f rest = refl
+layer_begins (QItem-F.Agg op x) f rest = refl
+layer_begins (QItem-F.Edge e args dirs fields) f rest = by e.back refl
+  where
+    by : (back : Bool) → e.back ≡ back → begins_field (on f (layer_words (QItem-F.Edge e args dirs fields)) rest) ≡ true
+    by true k = rw k refl
+    by false k = rw k refl
+
+-- ---- what stands second
+
+-- a test that no token passes that can stand behind an item's first word
+record IsSecond (test : Tok → Bool) : Type 0 where
+  pub round : (start : ℕ) → test (tok_from start (mark_word open_round)) ≡ false
+  pub curly : (start : ℕ) → test (tok_from start (mark_word open_curly)) ≡ false
+  pub comma_too : (start : ℕ) → test (comma_tok start) ≡ false
+  pub at_too : (text : List ℕ) (start : ℕ) → test (tok_from start (at_word text)) ≡ false
+
+module _ (test : Tok → Bool) (s : IsSecond test) where
+  braces_second : (fields : Option (List QField)) (f : ℕ → ℕ) (start : ℕ) (rest : List Tok) → next test (on f (shown.braces fields) (comma_tok start ∷ rest)) ≡ false
+  braces_second None f start rest = s.comma_too start
+  braces_second (Some fs) f start rest = s.curly (f 0)
+
+  dirs_second : (ds : List QDir) (fields : Option (List QField)) (f : ℕ → ℕ) (start : ℕ) (rest : List Tok) → next test (on f (flat_map dir_words ds ++ shown.braces fields) (comma_tok start ∷ rest)) ≡ false
+  dirs_second [] fields f start rest = braces_second fields f start rest
+  dirs_second (dirs.Filter fl ∷ ds) fields f start rest = s.at_too (codes "@filter") (f 0)
+  dirs_second (dirs.Cascade ∷ ds) fields f start rest = s.at_too (codes "@cascade") (f 0)
+  dirs_second (dirs.Normalize ∷ ds) fields f start rest = s.at_too (codes "@normalize") (f 0)
+  dirs_second (dirs.Recurse os ∷ ds) fields f start rest = s.at_too (codes "@recurse") (f 0)
+
+  edge_second : (args : List QArg) (ds : List QDir) (fields : Option (List QField)) (f : ℕ → ℕ) (start : ℕ) (rest : List Tok)
+      → next test (on f (args_words args ++ (flat_map dir_words ds ++ shown.braces fields)) (comma_tok start ∷ rest)) ≡ false
+  edge_second [] ds fields f start rest = dirs_second ds fields f start rest
+  edge_second (a ∷ more) ds fields f start rest = s.round (f 0)
+
+  layer_second : (o : Layer) (f : ℕ → ℕ) (start : ℕ) (rest : List Tok) → next_two is_name test (on f (layer_words o) (comma_tok start ∷ rest)) ≡ false
+  layer_second QItem-F.Uid f start rest = s.comma_too start
+  layer_second QItem-F.CountUid f start rest = s.round (f 1)
+  layer_second (QItem-F.Count e) f start rest = s.round (f 1)
+  layer_second (QItem-F.Val x) f start rest = s.round (f 1)
+  layer_second (QItem-F.Agg op x) f start rest = s.round (f 1)
+  layer_second (QItem-F.Edge e args ds fields) f start rest = by e.back refl
+    where
+      by : (back : Bool) → e.back ≡ back → next_two is_name test (on f (layer_words (QItem-F.Edge e args ds fields)) (comma_tok start ∷ rest)) ≡ false
+      by true k = rw k refl
+      by false k = rw k (edge_second args ds fields (λ n. f (suc n)) start rest)
+
+is_as : IsSecond (is_word (codes "as"))
+is_as = record { round = λ n. refl; curly = λ n. refl; comma_too = λ n. refl; at_too = λ t n. refl }
+
+is_colon : IsSecond (is_punct colon)
+is_colon = record { round = λ n. refl; curly = λ n. refl; comma_too = λ n. refl; at_too = λ t n. refl }
+
+-- ---- items
+
+-- an item is read again before a comma
+record ReadsItem (r : Reader QItem) (i : QItem) (ws : List Word) : Type 0 where
+  pub words : AreWords ws
+  pub again : (f : ℕ → ℕ) (start : ℕ) (rest : List Tok) → r (at (on f ws (comma_tok start ∷ rest))) ≡ Ok (i, at (comma_tok start ∷ rest))
+
+-- no more braces, and no more of the braces' fields
+abbrev ends_fields : List Tok → Bool
+ends_fields l = begins_field l || never l
+
+module _ (b : Around) (I : List QField → Type 0) (inner : Reader (List QField)) (one : (fs : List QField) → I fs → Reads inner fs (flat_map field_words fs) ends_fields) where
+  braces_words : (fields : Option (List QField)) → AreBraces b I fields → AreWords (shown.braces fields)
+  braces_words None h = tt
+  braces_words (Some fs) h = (sign 123 refl, words_append (flat_map field_words fs) (mark_word 125 ∷ []) (one fs h.1).words (sign 125 refl, tt))
+
+  braces_read : (fields : Option (List QField)) → AreBraces b I fields → (f : ℕ → ℕ) (start : ℕ) (rest : List Tok)
+      → optional (next (is_punct open_curly)) (braces b inner) None (at (on f (shown.braces fields) (comma_tok start ∷ rest))) ≡ Ok (fields, at (comma_tok start ∷ rest))
+  unfolding braces
+  braces_read None h f start rest = refl
+  braces_read (Some fs) h f start rest =
+      let g : ℕ → ℕ = λ n. f (suc n) in
+      let ws : List Word = flat_map field_words fs in
+      rw (h.0, on_append g ws (mark_word 125 ∷ []) (comma_tok start ∷ rest), (one fs h.1).again g (on (behind g ws) (mark_word 125 ∷ []) (comma_tok start ∷ rest)) refl) refl
+
+  braces_bar : (fields : Option (List QField)) (f : ℕ → ℕ) (start : ℕ) (rest : List Tok) → bars_dirs (on f (shown.braces fields) (comma_tok start ∷ rest)) ≡ false
+  braces_bar None f start rest = refl
+  braces_bar (Some fs) f start rest = refl
+
+  dirs_bar : (ds : List QDir) (fields : Option (List QField)) (f : ℕ → ℕ) (start : ℕ) (rest : List Tok) → is_open (on f (flat_map dir_words ds ++ shown.braces fields) (comma_tok start ∷ rest)) ≡ false
+  dirs_bar [] None f start rest = refl
+  dirs_bar [] (Some fs) f start rest = refl
+  dirs_bar (dirs.Filter fl ∷ ds) fields f start rest = refl
+  dirs_bar (dirs.Cascade ∷ ds) fields f start rest = refl
+  dirs_bar (dirs.Normalize ∷ ds) fields f start rest = refl
+  dirs_bar (dirs.Recurse os ∷ ds) fields f start rest = refl
+
+  same_owner : (o : Owner) → SameOwner o o
+  same_owner o = record { block = refl; has_func = refl; recurse = refl; as_place = λ e. e }
+
+  edge_item_reads : (s : Start) (before : List QField) (e : QEdge) (args : List QArg) (ds : List QDir) (fields : Option (List QField)) → IsEdge b I s.has_alias before e args ds fields
+      → ReadsItem (edge_item b inner s before) (items.Edge e args ds fields) (layer_words (QItem-F.Edge e args ds fields))
+  unfolding edge_item
+  edge_item_reads s before e args ds fields h =
+      let dirs_are : ReadDirs (edge_owner b) h.marks = dirs_read (edge_owner b) h.marks h.dirs_are in
+      let tail : List Word = flat_map dir_words ds ++ shown.braces fields in
+      let dirs_words : AreWords (flat_map dir_words ds) = subst (λ (l : List QDir). AreWords (flat_map dir_words l)) h.dirs_is dirs_are.words in
+      record {
+        words = words_append (edge_words e) (args_words args ++ tail) (edge_reads e h.pred).words
+            (words_append (args_words args) tail (args_read args h.args_are).words
+            (words_append (flat_map dir_words ds) (shown.braces fields) dirs_words (braces_words fields h.braces_are)));
+        again = λ f start rest.
+            let c : List Tok = comma_tok start ∷ rest in
+            let f1 : ℕ → ℕ = behind f (edge_words e) in
+            let f2 : ℕ → ℕ = behind f1 (args_words args) in
+            let f3 : ℕ → ℕ = behind f2 (flat_map dir_words ds) in
+            let t3 : List Tok = on f3 (shown.braces fields) c in
+            let again : DirsAgain (edge_owner b) h.marks (on f2 (flat_map dir_words h.marks.dirs) t3) t3 = dirs_are.again (edge_owner b) (same_owner (edge_owner b)) f2 t3 (braces_bar fields f3 start rest) in
+            let read : all_dirs (edge_owner b) (at (on f2 (flat_map dir_words ds) t3)) ≡ Ok (again.after, at t3) = subst (λ (l : List QDir). all_dirs (edge_owner b) (at (on f2 (flat_map dir_words l) t3)) ≡ Ok (again.after, at t3)) h.dirs_is again.is in
+            let same : again.after.dirs ≡ ds = again.same.dirs ∙ h.dirs_is in
+            rw (on_append f (edge_words e) (args_words args ++ tail) c, (edge_reads e h.pred).again f (on f1 (args_words args ++ tail) c) refl, h.key,
+                on_append f1 (args_words args) tail c, (args_read args h.args_are).again f1 (on f2 tail c) (dirs_bar ds fields f2 start rest),
+                on_append f2 (flat_map dir_words ds) (shown.braces fields) c, read, braces_read fields h.braces_are f3 start rest)
+            (ap (λ (l : List QDir). Ok (items.Edge e args l fields, at c)) same);
+      }
