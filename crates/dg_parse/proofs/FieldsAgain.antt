@@ -94,6 +94,11 @@ not_kept p h =
 no_agg : (p : List ℕ) → IsPred p → (start : ℕ) → aggregate_meant (tok_from start (name_word p)) ≡ None
 no_agg p h start = let k = not_kept p h in rw (k.min, k.max, k.sum) refl
 
+agg_no_word : (op : AggOp) (start : ℕ) → (bytes_eq (aggregate_word op) (codes "uid") ≡ false) × (bytes_eq (aggregate_word op) (codes "count") ≡ false) × (bytes_eq (aggregate_word op) (codes "val") ≡ false)
+agg_no_word aggregates.Min start = (refl, refl, refl)
+agg_no_word aggregates.Max start = (refl, refl, refl)
+agg_no_word aggregates.Sum start = (refl, refl, refl)
+
 -- the comma behind an item
 abbrev comma_tok : ℕ → Tok
 comma_tok start = tok_from start (mark_word comma)
@@ -187,7 +192,7 @@ record ReadsItem (r : Reader QItem) (i : QItem) (ws : List Word) : Type 0 where
   pub again : (f : ℕ → ℕ) (start : ℕ) (rest : List Tok) → r (at (on f ws (comma_tok start ∷ rest))) ≡ Ok (i, at (comma_tok start ∷ rest))
 
 -- no more braces, and no more of the braces' fields
-abbrev ends_fields : List Tok → Bool
+abbrev pub ends_fields : List Tok → Bool
 ends_fields l = begins_field l || never l
 
 module _ (b : Around) (I : List QField → Type 0) (inner : Reader (List QField)) (one : (fs : List QField) → I fs → Reads inner fs (flat_map field_words fs) ends_fields) where
@@ -244,3 +249,161 @@ module _ (b : Around) (I : List QField → Type 0) (inner : Reader (List QField)
                 on_append f2 (flat_map dir_words ds) (shown.braces fields) c, read, braces_read fields h.braces_are f3 start rest)
             (ap (λ (l : List QDir). Ok (items.Edge e args l fields, at c)) same);
       }
+
+  -- a word that the predicate isn't
+  edge_no_word : (w : List ℕ) (e : QEdge) (vs : List Word) → bytes_eq e.pred w ≡ false → (f : ℕ → ℕ) (rest : List Tok) → next (is_word w) (on f (edge_words e ++ vs) rest) ≡ false
+  edge_no_word w e vs h f rest = by e.back refl
+    where
+      by : (back : Bool) → e.back ≡ back → next (is_word w) (on f (edge_words e ++ vs) rest) ≡ false
+      by true k = rw k refl
+      by false k = rw (k, h) refl
+
+  layer_reads : (s : Start) (before : List QField) (o : Layer) → IsLayer b I s.has_var s.has_alias before o → ReadsItem (item b inner s before) (roll-QItem o) (layer_words o)
+  unfolding item uid_item count_item count_uid count_edge val_item agg_item
+  layer_reads s before QItem-F.Uid h = subst (λ (i : QItem). ReadsItem (item b inner s before) i (layer_words QItem-F.Uid)) (sym items.rolls-Uid) (record {
+    words = (fixed (codes "uid") refl, tt);
+    again = λ f start rest. rw h refl;
+  })
+  layer_reads s before QItem-F.CountUid h = subst (λ (i : QItem). ReadsItem (item b inner s before) i (layer_words QItem-F.CountUid)) (sym items.rolls-CountUid) (record {
+    words = (fixed (codes "count") refl, (sign 40 refl, (fixed (codes "uid") refl, (sign 41 refl, tt))));
+    again = λ f start rest. rw (h.0, h.1, h.2) refl;
+  })
+  layer_reads s before (QItem-F.Count e) h = subst (λ (i : QItem). ReadsItem (item b inner s before) i (layer_words (QItem-F.Count e))) (sym (items.rolls-Count e)) (record {
+    words = (fixed (codes "count") refl, (sign 40 refl, words_append (edge_words e) (mark_word 41 ∷ []) (edge_reads e h.0).words (sign 41 refl, tt)));
+    again = λ f start rest.
+        let g : ℕ → ℕ = λ n. f (suc (suc n)) in
+        rw (edge_no_word (codes "uid") e (mark_word 41 ∷ []) (not_kept e.pred h.0).uid g (comma_tok start ∷ rest),
+            on_append g (edge_words e) (mark_word 41 ∷ []) (comma_tok start ∷ rest),
+            (edge_reads e h.0).again g (on (behind g (edge_words e)) (mark_word 41 ∷ []) (comma_tok start ∷ rest)) refl, h.1) refl;
+  })
+  layer_reads s before (QItem-F.Val x) h = subst (λ (i : QItem). ReadsItem (item b inner s before) i (layer_words (QItem-F.Val x))) (sym (items.rolls-Val x)) (record {
+    words = (val_reads x h.0).words;
+    again = λ f start rest. rw (h.1, (round_name_reads x h.0).again (λ n. f (suc n)) (comma_tok start ∷ rest) refl, h.2) refl;
+  })
+  layer_reads s before (QItem-F.Agg op x) h = subst (λ (i : QItem). ReadsItem (item b inner s before) i (layer_words (QItem-F.Agg op x))) (sym (items.rolls-Agg op x)) (record {
+    words = (agg_fixed op, (sign 40 refl, words_append (val_words x) (mark_word 41 ∷ []) (val_reads x h.0).words (sign 41 refl, tt)));
+    again = λ f start rest.
+        let g : ℕ → ℕ = λ n. f (suc (suc n)) in
+        rw ((agg_no_word op (f 0)).0, (agg_no_word op (f 0)).1, (agg_no_word op (f 0)).2, agg_means op (f 0), (val_reads x h.0).again g (on (behind g (val_words x)) (mark_word 41 ∷ []) (comma_tok start ∷ rest)) refl, h.1) refl;
+  })
+  layer_reads s before (QItem-F.Edge e args ds fields) h = subst (λ (i : QItem). ReadsItem (item b inner s before) i (layer_words (QItem-F.Edge e args ds fields))) (sym (items.rolls-Edge e args ds fields)) (record {
+    words = (edge_item_reads s before e args ds fields h).words;
+    again = λ f start rest.
+        let vs : List Word = args_words args ++ (flat_map dir_words ds ++ shown.braces fields) in
+        let c : List Tok = comma_tok start ∷ rest in
+        let k : NotKept e.pred = not_kept e.pred h.pred in
+        rw (edge_no_word (codes "uid") e vs k.uid f c, edge_no_word (codes "count") e vs k.count f c, edge_no_word (codes "val") e vs k.val f c,
+            layer_aggregate (QItem-F.Edge e args ds fields) b I s.has_var s.has_alias before h f c, (edge_item_reads s before e args ds fields h).again f start rest) refl;
+  })
+
+  item_reads : (s : Start) (before : List QField) (i : QItem) → IsLayer b I s.has_var s.has_alias before (out-QItem i) → ReadsItem (item b inner s before) i (words_of_item i)
+  item_reads s before i h =
+      subst (λ (ws : List Word). ReadsItem (item b inner s before) i ws) (sym (item_is i))
+      (subst (λ (x : QItem). ReadsItem (item b inner s before) x (layer_words (out-QItem i))) (roll-out-QItem i) (layer_reads s before (out-QItem i) h))
+
+  -- ---- in front of an item
+
+  record FrontAgain (before : List QField) (var alias : Option (List ℕ)) (all tokens : List Tok) : Type 0 where
+    pub start : Start
+    pub is : front b before (at all) ≡ Ok (record { var = var; alias = alias; start = start }, at tokens)
+    pub has_var : start.has_var ≡ is_some var
+    pub has_alias : start.has_alias ≡ is_some alias
+
+  front_again : (before : List QField) (var alias : Option (List ℕ)) (f g : ℕ → ℕ) (tokens : List Tok)
+      → (is_some var && (not b.has_func || b.recurse)) ≡ false → is_alias before alias ≡ false
+      → next_two is_name (is_word (codes "as")) tokens ≡ false → next_two is_name (is_punct colon) tokens ≡ false
+      → (begins_aggregate tokens && b.has_func) ≡ false → (begins_other tokens && not b.has_func) ≡ false
+      → FrontAgain before var alias (on f (var_words var) (on g (alias_words alias) tokens)) tokens
+  unfolding front any_variable variable any_alias alias
+  front_again before None None f g tokens v a e1 e2 agg other = record { start = record { has_var = false; as_place = 0; has_alias = false; place = length tokens }; is = rw (e1, e2, agg, other) refl; has_var = refl; has_alias = refl }
+  front_again before None (Some k) f g tokens v a e1 e2 agg other = record { start = record { has_var = false; as_place = 0; has_alias = true; place = length tokens }; is = rw (a, agg, other) refl; has_var = refl; has_alias = refl }
+  front_again before (Some x) None f g tokens v a e1 e2 agg other = record { start = record { has_var = true; as_place = suc (length tokens); has_alias = false; place = length tokens }; is = rw (v, e2, agg, other) refl; has_var = refl; has_alias = refl }
+  front_again before (Some x) (Some k) f g tokens v a e1 e2 agg other = record { start = record { has_var = true; as_place = suc (suc (suc (length tokens))); has_alias = true; place = length tokens }; is = rw (v, a, agg, other) refl; has_var = refl; has_alias = refl }
+
+  -- ---- fields
+
+  field_split : (fd : QField) (f : ℕ → ℕ) (rest : List Tok) →
+      let f1 : ℕ → ℕ = behind f (var_words fd.var) in
+      let f2 : ℕ → ℕ = behind f1 (alias_words fd.alias) in
+      let f3 : ℕ → ℕ = behind f2 (words_of_item fd.item) in
+      on f (field_words fd) rest ≡ on f (var_words fd.var) (on f1 (alias_words fd.alias) (on f2 (words_of_item fd.item) (comma_tok (f3 0) ∷ rest)))
+  field_split fd f rest =
+      let f1 : ℕ → ℕ = behind f (var_words fd.var) in
+      let f2 : ℕ → ℕ = behind f1 (alias_words fd.alias) in
+      let w2 : List Word = words_of_item fd.item ++ mark_word comma ∷ [] in
+      ap (λ ws. on f ws rest) (field_is fd)
+      ∙ on_append f (var_words fd.var) (alias_words fd.alias ++ w2) rest
+      ∙ ap (λ l. on f (var_words fd.var) l) (on_append f1 (alias_words fd.alias) w2 rest)
+      ∙ ap (λ l. on f (var_words fd.var) (on f1 (alias_words fd.alias) l)) (on_append f2 (words_of_item fd.item) (mark_word comma ∷ []) rest)
+
+  any_name_words : (var : Option (List ℕ)) → IsAnyName var → AreWords (var_words var)
+  any_name_words None h = tt
+  any_name_words (Some x) h = (h, (fixed (codes "as") refl, tt))
+
+  any_alias_words : (key : Option (List ℕ)) → IsAnyName key → AreWords (alias_words key)
+  any_alias_words None h = tt
+  any_alias_words (Some x) h = (h, (sign 58 refl, tt))
+
+  field_begins : (fd : QField) (f : ℕ → ℕ) (rest : List Tok) → begins_field (on f (field_words fd) rest) ≡ true
+  field_begins fd f rest = ap begins_field (field_split fd f rest) ∙ by fd.var fd.alias
+    where
+      by : (var key : Option (List ℕ)) →
+          let f1 : ℕ → ℕ = behind f (var_words var) in
+          let f2 : ℕ → ℕ = behind f1 (alias_words key) in
+          let f3 : ℕ → ℕ = behind (behind (behind f (var_words fd.var)) (alias_words fd.alias)) (words_of_item fd.item) in
+          begins_field (on f (var_words var) (on f1 (alias_words key) (on f2 (words_of_item fd.item) (comma_tok (f3 0) ∷ rest)))) ≡ true
+      by None None = rw (item_is fd.item) (layer_begins (out-QItem fd.item) f _)
+      by None (Some k) = refl
+      by (Some x) key = refl
+
+  field_some : (fd : QField) → 0 < length (field_words fd)
+  field_some fd =
+      let w2 : List Word = words_of_item fd.item ++ mark_word comma ∷ [] in
+      let w1 : List Word = alias_words fd.alias ++ w2 in
+      omega (arith, ap length (field_is fd), length-append (var_words fd.var) w1, length-append (alias_words fd.alias) w2, length-append (words_of_item fd.item) (mark_word comma ∷ []))
+
+  field_reads : (before : List QField) (fd : QField) → IsField b I before fd → Reads (field b inner before) (before ++ fd ∷ []) (field_words fd) never
+  unfolding field
+  field_reads before fd h =
+      let read : (s : Start) → s.has_var ≡ is_some fd.var → s.has_alias ≡ is_some fd.alias → ReadsItem (item b inner s before) fd.item (words_of_item fd.item) =
+          (λ s v a. item_reads s before fd.item (subst (λ (t : Bool). IsLayer b I t s.has_alias before (out-QItem fd.item)) (sym v) (subst (λ (t : Bool). IsLayer b I (is_some fd.var) t before (out-QItem fd.item)) (sym a) h.layer))) in
+      let some : Start = record { has_var = is_some fd.var; as_place = 0; has_alias = is_some fd.alias; place = 0 } in
+      let words : AreWords (var_words fd.var ++ (alias_words fd.alias ++ (words_of_item fd.item ++ mark_word comma ∷ []))) =
+          words_append (var_words fd.var) _ (any_name_words fd.var h.var)
+          (words_append (alias_words fd.alias) _ (any_alias_words fd.alias h.alias_name)
+          (words_append (words_of_item fd.item) (mark_word comma ∷ []) (read some refl refl).words (sign 44 refl, tt))) in
+      record {
+        words = subst (λ (ws : List Word). AreWords ws) (sym (field_is fd)) words;
+        again = λ f rest e.
+            let f1 : ℕ → ℕ = behind f (var_words fd.var) in
+            let f2 : ℕ → ℕ = behind f1 (alias_words fd.alias) in
+            let f3 : ℕ → ℕ = behind f2 (words_of_item fd.item) in
+            let c : List Tok = comma_tok (f3 0) ∷ rest in
+            let tokens : List Tok = on f2 (words_of_item fd.item) c in
+            let o : Layer = out-QItem fd.item in
+            let as_layer : tokens ≡ on f2 (layer_words o) c = ap (λ ws. on f2 ws c) (item_is fd.item) in
+            let second : (test : Tok → Bool) → IsSecond test → next_two is_name test tokens ≡ false = (λ test s. ap (next_two is_name test) as_layer ∙ layer_second test s o f2 (f3 0) rest) in
+            let agg : begins_aggregate tokens ≡ agg_layer o = ap begins_aggregate as_layer ∙ layer_aggregate o b I (is_some fd.var) (is_some fd.alias) before h.layer f2 c in
+            let other : begins_other tokens ≡ not (agg_layer o) = ap begins_other as_layer ∙ layer_other o b I (is_some fd.var) (is_some fd.alias) before h.layer f2 c in
+            let fr : FrontAgain before fd.var fd.alias (on f (var_words fd.var) (on f1 (alias_words fd.alias) tokens)) tokens =
+                front_again before fd.var fd.alias f f1 tokens h.var_fits h.alias_new (second (is_word (codes "as")) is_as) (second (is_punct colon) is_colon)
+                (ap (λ t. t && b.has_func) agg ∙ h.agg_fits) (ap (λ t. t && not b.has_func) other ∙ h.other_fits) in
+            ap (λ l. field b inner before (at l)) (field_split fd f rest)
+            ∙ rw (fr.is, (read fr.start fr.has_var fr.has_alias).again f2 (f3 0) rest) refl;
+      }
+
+  fields_repeat : Repeats begins_field (field b inner) (IsField b I) field_words never
+  fields_repeat = record {
+    reads = field_reads;
+    begun = λ before fd h f rest. field_begins fd f rest;
+    clear = λ before fd h f rest. refl;
+    some = λ before fd h. field_some fd;
+  }
+
+  some_fields_read : (fs : List QField) → Items (IsField b I) [] fs → Reads (some_fields b inner) fs (flat_map field_words fs) ends_fields
+  some_fields_read fs h = repeated_reads begins_field (field b inner) (IsField b I) field_words never fields_repeat [] fs h
+
+pub fields_read : (b : Around) (depth : ℕ) (fs : List QField) → AreFields b depth fs → Reads (fields b depth) fs (flat_map field_words fs) ends_fields
+unfolding fields AreFields
+fields_read b zero fs h = absurd h
+fields_read b (suc depth) fs h = some_fields_read b (λ gs. AreFields b depth gs) (fields b depth) (fields_read b depth) fs h
