@@ -16,3 +16,4 @@ pub mod DirectivesAgain
 pub mod FieldWords
 pub mod FieldsRead
 pub mod FieldsAgain
+pub mod BlocksAgain
