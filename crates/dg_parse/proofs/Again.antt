@@ -6,7 +6,7 @@ use Rattle.std.proofs.lemmas.Bool.{false≢true}
 use Rattle.dg_text.specs.Cases.{Left, Reader, met, part, also_at, also_next, here}
 use Rattle.dg_text.specs.Reading.{Read, and_then, next, skip, one_as, meant}
 use Rattle.dg_text.specs.Tokens.{Tok}
-use Rattle.dg_parse.specs.Written.{Word, IsWord, word_said}
+use Rattle.dg_text.specs.Written.{Word, IsWord, word_said}
 use Rattle.dg_parse.proofs.Formed.{IsFormed, AreFormed}
 
 -- ---- what is left, and tokens of words

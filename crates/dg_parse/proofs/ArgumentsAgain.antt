@@ -15,9 +15,9 @@ use Rattle.dg_parse.specs.declared.words.ArgWord.{ArgWord}
 use Rattle.dg_parse.specs.declared.words.ArgWord.TheVariants as words
 use Rattle.dg_parse.specs.Arguments.{val_order, pred_order, order, int_arg, node_arg, order_arg, value_of, arg, comma_arg, more_args, begins_arg, some_args, bracketed_args}
 use Rattle.dg_parse.specs.Printed.{in_round, commas, order_words, arg_text, value_words, arg_words, args_words}
-use Rattle.dg_parse.specs.Spelling.{name_word, uid_word, mark_word}
+use Rattle.dg_text.specs.Spelling.{name_word, uid_word, mark_word}
 use Rattle.dg_parse.specs.Words.{argument_meant}
-use Rattle.dg_parse.specs.Written.{Word, IsWord}
+use Rattle.dg_text.specs.Written.{Word, IsWord}
 use Rattle.dg_parse.proofs.Again.{Each, Reads, bind, gives, weaker, either, at_one, at_skip, unbarred, words_append, never, at, on, tok_from, behind, on_append}
 use Rattle.dg_parse.proofs.FixedWords.{fixed, sign}
 use Rattle.dg_parse.proofs.Formed.{IsSpelled}

@@ -26,8 +26,8 @@ use Rattle.dg_parse.specs.Grammar.{root_part, no_root, is_second, head, block, b
 use Rattle.dg_parse.specs.Names.{Defined, variable, any_variable}
 use Rattle.dg_parse.specs.Printed.{in_round, arg_words, dir_words, func_words}
 use Rattle.dg_parse.specs.PrintedQuery.{var_words, field_words, root_words, block_words, query_words}
-use Rattle.dg_parse.specs.Spelling.{name_word, mark_word}
-use Rattle.dg_parse.specs.Written.{Word, IsWord}
+use Rattle.dg_text.specs.Spelling.{name_word, mark_word}
+use Rattle.dg_text.specs.Written.{Word, IsWord}
 use Rattle.dg_parse.proofs.Again.{Each, Reads, AreWords, bind, gives, weaker, either, at_skip, at_also, at_here, at_one, some_took, words_append, never, at, on, tok_from, behind, on_append}
 use Rattle.dg_parse.proofs.ArgumentsAgain.{is_open, AreArgs, at_more_args, more_args_read}
 use Rattle.dg_parse.proofs.DirectivesAgain.{AreDirs, at_dirs, SameMarks, SameOwner, DirsAgain, ReadDirs, dirs_read}

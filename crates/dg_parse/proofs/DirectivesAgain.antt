@@ -19,9 +19,9 @@ use Rattle.dg_parse.specs.declared.words.DirWord.TheVariants as kinds
 use Rattle.dg_parse.specs.Directives.{filter_dir, cascade_dir, normalize_dir, recurse_dir, dir_of, is_marked, dir, begins_dir, unmarked, all_dirs, ropts}
 use Rattle.dg_parse.specs.Filters.{filter}
 use Rattle.dg_parse.specs.Printed.{in_round, dir_words, opts_words, filter_words}
-use Rattle.dg_parse.specs.Spelling.{at_word, mark_word}
+use Rattle.dg_text.specs.Spelling.{at_word, mark_word}
 use Rattle.dg_parse.specs.Words.{directive_meant}
-use Rattle.dg_parse.specs.Written.{Word, IsWord}
+use Rattle.dg_text.specs.Written.{Word, IsWord}
 use Rattle.dg_parse.proofs.Again.{Each, Reads, AreWords, bind, gives, weaker, either, at_one, at_skip, at_also, at_here, some_took, words_append, never, at, on, tok_from, behind, on_append}
 use Rattle.dg_parse.proofs.ArgumentsAgain.{is_open}
 use Rattle.dg_parse.proofs.FilterWords.{IsFilter}

@@ -19,8 +19,8 @@ use Rattle.dg_parse.specs.Directives.{unmarked}
 use Rattle.dg_parse.specs.Keys.{edge_text, count_key, val_key, agg_key, is_key, is_alias}
 use Rattle.dg_parse.specs.Printed.{args_words, dir_words, edge_words}
 use Rattle.dg_parse.specs.PrintedQuery.{var_words, alias_words, braces_words, item_words, words_of_field, field_words}
-use Rattle.dg_parse.specs.Spelling.{name_word, mark_word}
-use Rattle.dg_parse.specs.Written.{Word, IsWord}
+use Rattle.dg_text.specs.Spelling.{name_word, mark_word}
+use Rattle.dg_text.specs.Written.{Word, IsWord}
 use Rattle.dg_parse.proofs.ArgumentsAgain.{AreArgs}
 use Rattle.dg_parse.proofs.DirectivesAgain.{AreDirs}
 use Rattle.dg_parse.proofs.Lists.{Items}

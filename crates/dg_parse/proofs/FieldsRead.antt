@@ -24,9 +24,9 @@ use Rattle.dg_parse.specs.Directives.{all_dirs}
 use Rattle.dg_parse.specs.Fields.{uid_item, count_uid, count_edge, count_item, val_item, agg_item, braces, edge_item, begins_aggregate, begins_other, item, front, any_comma, field, begins_field, some_fields, fields}
 use Rattle.dg_parse.specs.Keys.{edge_text, count_key, val_key, agg_key, is_key, is_alias}
 use Rattle.dg_parse.specs.Names.{Defined, pred, backwards, edge, variable, any_variable, alias, any_alias}
-use Rattle.dg_parse.specs.Spelling.{name_word}
+use Rattle.dg_text.specs.Spelling.{name_word}
 use Rattle.dg_parse.specs.Words.{aggregate_words, aggregate_meant}
-use Rattle.dg_parse.specs.Written.{Word, IsWord}
+use Rattle.dg_text.specs.Written.{Word, IsWord}
 use Rattle.dg_parse.proofs.Again.{Good, Each, Took, Passed, bind, gives, weaker, either, at_one, at_skip, at_also, at_here, some_took, some_passed}
 use Rattle.dg_parse.proofs.ArgumentsAgain.{at_args}
 use Rattle.dg_parse.proofs.DirectivesAgain.{at_dirs}

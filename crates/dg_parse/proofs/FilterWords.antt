@@ -11,8 +11,8 @@ use Rattle.dg_parse.specs.declared.query.QPart.TheViews.{out-QPart, roll-QPart, 
 use Rattle.dg_parse.specs.declared.query.QPart.TheFolds.{fold-QPart, fold_out-QPart, fold_out-QFilter}
 use Rattle.dg_parse.specs.Filters.{plainly}
 use Rattle.dg_parse.specs.Printed.{Shown, shown, shown_part, shown_filter, shown_alone, shown_or, shown_and, nots, func_words, between_words}
-use Rattle.dg_parse.specs.Spelling.{name_word}
-use Rattle.dg_parse.specs.Written.{Word}
+use Rattle.dg_text.specs.Spelling.{name_word}
+use Rattle.dg_text.specs.Written.{Word}
 use Rattle.dg_parse.proofs.FunctionsAgain.{IsFuncAt}
 
 -- ---- the words by the part

@@ -19,8 +19,8 @@ use Rattle.dg_parse.specs.declared.query.QPart.TheViews.{out-QPart}
 use Rattle.dg_parse.specs.Filters.{one_not, plainly, negated, func_alone, bracketed, atom, not_of, and_more, and_rest, and_of, or_more, or_rest, or_of, filter}
 use Rattle.dg_parse.specs.Functions.{func}
 use Rattle.dg_parse.specs.Printed.{Shown, shown, shown_alone, shown_or, shown_and, nots, func_words, between_words, in_round, filter_words}
-use Rattle.dg_parse.specs.Spelling.{name_word, mark_word}
-use Rattle.dg_parse.specs.Written.{Word, IsWord}
+use Rattle.dg_text.specs.Spelling.{name_word, mark_word}
+use Rattle.dg_text.specs.Written.{Word, IsWord}
 use Rattle.dg_parse.proofs.Again.{Each, Reads, AreWords, bind, gives, weaker, either, at_skip, then_reads, last_reads, as_reader, unbarred, words_append, never, at, on, tok_from, behind, on_append}
 use Rattle.dg_parse.proofs.FilterWords.{Layer, shown_of, shown_is, or_words, and_words, shown_as_or, shown_as_and, shown_as_func, part_or, part_and, part_func, AreTwo, AreParts, not_case, IsNot, and_case, IsAnd, or_case, IsOr, IsFilter, in_brackets, not_and, and_or}
 use Rattle.dg_parse.proofs.FixedWords.{fixed, sign}

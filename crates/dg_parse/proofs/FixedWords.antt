@@ -5,8 +5,8 @@ use Rattle.std.specs.List.{AllByRecursion, list_all, concat}
 use Rattle.std.proofs.lemmas.Bool.{false≢true}
 use Rattle.dg_text.specs.Forms.{is_letter, is_word_byte, is_punct_byte}
 use Rattle.dg_text.specs.Language.{IsNamePiece, IsName, IsAt, IsPunct}
-use Rattle.dg_parse.specs.Spelling.{name_word, at_word, mark_word}
-use Rattle.dg_parse.specs.Written.{IsWord}
+use Rattle.dg_text.specs.Spelling.{name_word, at_word, mark_word}
+use Rattle.dg_text.specs.Written.{IsWord}
 
 -- a letter, and then letters and digits, and not too many
 abbrev pub is_plain : List ℕ → Bool

@@ -5,9 +5,9 @@ use Rattle.std.specs.List.{AllByRecursion}
 use Rattle.dg_text.specs.Patterns.{regex_meant}
 use Rattle.dg_text.specs.Said.{quoted_meant, int_meant, uid_meant}
 use Rattle.dg_text.specs.Tokens.{Tok, is_name}
-use Rattle.dg_parse.specs.Quoting.{quoted_word}
-use Rattle.dg_parse.specs.Spelling.{uid_word, name_word, int_word, regex_word}
-use Rattle.dg_parse.specs.Written.{Word, IsWord}
+use Rattle.dg_text.specs.Quoting.{quoted_word}
+use Rattle.dg_text.specs.Spelling.{uid_word, name_word, int_word, regex_word}
+use Rattle.dg_text.specs.Written.{Word, IsWord}
 
 -- a word that means this wherever it stands
 pub record IsSpelled {A : Type 0} (meaning : Tok → Option A) (w : Word) (x : A) : Type 0 where

@@ -24,10 +24,10 @@ use Rattle.dg_parse.specs.Functions.{count_of, val_of, pred_of, of, comparison, 
 use Rattle.dg_parse.specs.Literals.{uids, lit, lits}
 use Rattle.dg_parse.specs.Names.{edge, pred, val}
 use Rattle.dg_parse.specs.Printed.{in_round, commas, edge_words, val_words, node_words, lit_words, of_words, cmp_text, func_text, inner_words, func_words}
-use Rattle.dg_parse.specs.Quoting.{quoted_word}
-use Rattle.dg_parse.specs.Spelling.{name_word, regex_word, mark_word}
+use Rattle.dg_text.specs.Quoting.{quoted_word}
+use Rattle.dg_text.specs.Spelling.{name_word, regex_word, mark_word}
 use Rattle.dg_parse.specs.Words.{function_meant}
-use Rattle.dg_parse.specs.Written.{Word, IsWord}
+use Rattle.dg_text.specs.Written.{Word, IsWord}
 use Rattle.dg_parse.proofs.Again.{Each, Reads, Took, bind, gives, weaker, either, at_one, at_skip, at_also, at_here, some_took, skip_reads, one_reads, then_reads, last_reads, as_reader, unbarred, words_append, never, at, on, tok_from, behind, on_append}
 use Rattle.dg_parse.proofs.FixedWords.{fixed, sign}
 use Rattle.dg_parse.proofs.Formed.{IsFormed, IsSpelled}

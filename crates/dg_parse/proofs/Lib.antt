@@ -17,3 +17,5 @@ pub mod FieldWords
 pub mod FieldsRead
 pub mod FieldsAgain
 pub mod BlocksAgain
+pub mod TokensFormed
+pub mod TextAgain

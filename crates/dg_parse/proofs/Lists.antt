@@ -6,7 +6,7 @@ use Rattle.std.proofs.lemmas.Bool.{false≢true}
 use Rattle.dg_text.specs.Cases.{Left, Reader, upon, repeated}
 use Rattle.dg_text.specs.Reading.{Read, and_then, turns}
 use Rattle.dg_text.specs.Tokens.{Tok}
-use Rattle.dg_parse.specs.Written.{Word}
+use Rattle.dg_text.specs.Written.{Word}
 use Rattle.dg_parse.proofs.Again.{Each, Reads, AreWords, bind, gives, weaker, either, words_append, at, on, behind, on_append}
 
 -- one more was read, of which this holds

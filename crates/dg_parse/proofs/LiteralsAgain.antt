@@ -11,10 +11,10 @@ use Rattle.dg_parse.specs.declared.query.UidArg.{UidArg}
 use Rattle.dg_parse.specs.declared.query.UidArg.TheVariants as nodes
 use Rattle.dg_parse.specs.Literals.{comma_uid, uids, lit, comma_lit, some_lits, square_lits, lits}
 use Rattle.dg_parse.specs.Printed.{commas, node_words, lit_words}
-use Rattle.dg_parse.specs.Quoting.{quoted_word}
-use Rattle.dg_parse.specs.Spelling.{name_word, uid_word, mark_word}
+use Rattle.dg_text.specs.Quoting.{quoted_word}
+use Rattle.dg_text.specs.Spelling.{name_word, uid_word, mark_word}
 use Rattle.dg_parse.specs.Words.{node_meant, literal_meant}
-use Rattle.dg_parse.specs.Written.{Word, IsWord}
+use Rattle.dg_text.specs.Written.{Word, IsWord}
 use Rattle.dg_parse.proofs.Again.{Each, Reads, Took, bind, gives, weaker, either, at_one, at_skip, at_also, at_here, some_took, one_reads, then_reads, as_reader, never, at, on}
 use Rattle.dg_parse.proofs.FixedWords.{sign}
 use Rattle.dg_parse.proofs.Formed.{IsFormed, IsSpelled}

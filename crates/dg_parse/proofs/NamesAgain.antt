@@ -13,9 +13,9 @@ use Rattle.dg_text.specs.Words.{name_meant, is_reserved, is_reserved_name}
 use Rattle.dg_parse.specs.declared.query.QEdge.{QEdge}
 use Rattle.dg_parse.specs.Names.{int, pred, backwards, edge, in_round_name, val}
 use Rattle.dg_parse.specs.Printed.{edge_words, val_words, in_round}
-use Rattle.dg_parse.specs.Spelling.{name_word, mark_word, int_word}
+use Rattle.dg_text.specs.Spelling.{name_word, mark_word, int_word}
 use Rattle.dg_parse.specs.Words.{number_meant}
-use Rattle.dg_parse.specs.Written.{Word, IsWord}
+use Rattle.dg_text.specs.Written.{Word, IsWord}
 use Rattle.dg_parse.proofs.Again.{Each, Reads, Took, bind, gives, weaker, either, at_one, at_skip, at_also, some_took, skip_reads, one_reads, passes, then_reads, last_reads, never, at, on, tok_from}
 use Rattle.dg_parse.proofs.FixedWords.{fixed, sign}
 use Rattle.dg_parse.proofs.Formed.{IsFormed, IsSpelled}

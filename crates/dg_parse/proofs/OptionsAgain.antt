@@ -10,9 +10,9 @@ use Rattle.dg_parse.specs.declared.query.QOpt.TheVariants as options
 use Rattle.dg_parse.specs.Directives.{has_depth, has_loop, depth_option, loop_option, ropt, comma_ropt, ropts}
 use Rattle.dg_parse.specs.Names.{int}
 use Rattle.dg_parse.specs.Printed.{in_round, commas, truth_text, opt_words, opts_words}
-use Rattle.dg_parse.specs.Spelling.{name_word, mark_word}
+use Rattle.dg_text.specs.Spelling.{name_word, mark_word}
 use Rattle.dg_parse.specs.Words.{truth_meant}
-use Rattle.dg_parse.specs.Written.{Word, IsWord}
+use Rattle.dg_text.specs.Written.{Word, IsWord}
 use Rattle.dg_parse.proofs.Again.{Each, Reads, bind, gives, weaker, either, at_one, at_skip, at_also, at_here, some_passed, unbarred, words_append, never, at, on, tok_from, behind, on_append}
 use Rattle.dg_parse.proofs.ArgumentsAgain.{is_open}
 use Rattle.dg_parse.proofs.FixedWords.{fixed, sign}

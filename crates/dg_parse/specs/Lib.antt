@@ -14,8 +14,6 @@ pub mod Grammar
 pub mod Conditions
 pub mod Upsert
 pub mod Whole
-pub mod Written
-pub mod Spelling
-pub mod Quoting
 pub mod Printed
 pub mod PrintedQuery
+pub mod Laws

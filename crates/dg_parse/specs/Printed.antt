@@ -21,9 +21,9 @@ use Rattle.dg_parse.specs.declared.query.QOrder.{QOrder}
 use Rattle.dg_parse.specs.declared.query.QOrder.TheVariants as orders
 use Rattle.dg_parse.specs.declared.query.UidArg.{UidArg}
 use Rattle.dg_parse.specs.declared.query.UidArg.TheVariants as nodes
-use Rattle.dg_parse.specs.Quoting.{quoted_word}
-use Rattle.dg_parse.specs.Spelling.{uid_word, name_word, at_word, int_word, regex_word, mark_word}
-use Rattle.dg_parse.specs.Written.{Word}
+use Rattle.dg_text.specs.Quoting.{quoted_word}
+use Rattle.dg_text.specs.Spelling.{uid_word, name_word, at_word, int_word, regex_word, mark_word}
+use Rattle.dg_text.specs.Written.{Word}
 
 -- words of a Name each, as the grammar has them
 abbrev pub fixed : List ℕ → List Word

@@ -10,8 +10,8 @@ use Rattle.dg_parse.specs.declared.query.QFunc.{QFunc}
 use Rattle.dg_parse.specs.declared.query.Query.{Query}
 use Rattle.dg_parse.specs.Keys.{aggregate_word}
 use Rattle.dg_parse.specs.Printed.{in_round, commas, edge_words, val_words, func_words, arg_words, args_words, dir_words}
-use Rattle.dg_parse.specs.Spelling.{name_word, mark_word}
-use Rattle.dg_parse.specs.Written.{Word, written}
+use Rattle.dg_text.specs.Spelling.{name_word, mark_word}
+use Rattle.dg_text.specs.Written.{Word, written}
 
 -- [ Name "as" ]
 abbrev pub var_words : Option (List ℕ) → List Word
