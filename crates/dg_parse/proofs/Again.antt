@@ -1,10 +1,9 @@
 -- What is read, is printed and is read again: the ways in which parts of a production go together.
-use Rattle.std.proofs.Common.{◌≡◌, ℕ, zero, suc, ◌<◌, ◌≤◌, ◌+◌, Bool, true, false, List, [], ◌∷◌, ◌++◌, length, ap, refl, sym, ◌∙◌, subst, arith}
-use Rattle.std.specs.Prelude.{Option, Some, None, Result, Ok, Err, IfOk, max, ◌&&◌, if◌then◌else◌, is_some}
+use Rattle.std.proofs.Common.{◌≡◌, ℕ, suc, ◌<◌, Bool, true, false, List, [], ◌∷◌, ◌++◌, length, ap, refl, ◌∙◌, subst, arith}
+use Rattle.std.specs.Prelude.{Option, Some, None, Ok, Err, IfOk, if◌then◌else◌}
 use Rattle.std.specs.List.{AllByRecursion}
-use Rattle.std.proofs.lemmas.Bool.{false≢true}
-use Rattle.dg_text.specs.Cases.{Left, Reader, met, part, also_at, also_next, here}
-use Rattle.dg_text.specs.Reading.{Read, and_then, next, skip, one_as, meant}
+use Rattle.dg_text.specs.Cases.{Left, Reader, met, part, also_at, here}
+use Rattle.dg_text.specs.Reading.{Read, and_then, skip, one_as, meant}
 use Rattle.dg_text.specs.Tokens.{Tok}
 use Rattle.dg_text.specs.Written.{Word, IsWord, word_said}
 use Rattle.dg_parse.proofs.Formed.{IsFormed, AreFormed}
@@ -81,11 +80,13 @@ weaker {read = Err place} e f = record { it = tt }
 
 -- a case beside the grammar didn't hold
 pub at_also : (place : ℕ) (test : Bool) (left : Left) → Each left (also_at place test left) (λ _ l. (0 < place → test ≡ false) × (l.tokens ≡ left.tokens))
-at_also place true left = record { it = record {
-  formed = λ a. a;
-  earlier = λ e. omega (arith, e);
-  so = λ a e. (λ lt. absurd (omega (arith, e, lt)), refl);
-} }
+at_also place true left = record {
+  it = record {
+    formed = λ a. a;
+    earlier = λ e. omega (arith, e);
+    so = λ a e. (λ lt. absurd (omega (arith, e, lt)), refl);
+  };
+}
 at_also place false left = record { it = record { formed = λ a. a; earlier = λ e. e; so = λ a e. (λ lt. refl, refl) } }
 
 -- a token was read that means this
@@ -104,11 +105,13 @@ at_one meaning left = by left.tokens refl
   where
     one : (t : Tok) (rest : List Tok) (o : Option _) → left.tokens ≡ t ∷ rest → meaning t ≡ o → Each left (met left.refused (meant o (t ∷ rest) rest)) (λ x l. Took meaning left.tokens x)
     one t rest None e m = record { it = tt }
-    one t rest (Some x) e m = record { it = record {
-      formed = λ a. (subst (λ (l : List Tok). AreFormed l) e a).1;
-      earlier = λ z. z;
-      so = λ a z. record { token = t; rest = rest; first = e; means = m; formed = (subst (λ (l : List Tok). AreFormed l) e a).0 };
-    } }
+    one t rest (Some x) e m = record {
+      it = record {
+        formed = λ a. (subst (λ (l : List Tok). AreFormed l) e a).1;
+        earlier = λ z. z;
+        so = λ a z. record { token = t; rest = rest; first = e; means = m; formed = (subst (λ (l : List Tok). AreFormed l) e a).0 };
+      };
+    }
 
     by : (tokens : List Tok) → left.tokens ≡ tokens → Each left (met left.refused (one_as meaning tokens)) (λ x l. Took meaning left.tokens x)
     by [] e = record { it = tt }
@@ -129,11 +132,13 @@ at_skip is left = by left.tokens refl
   where
     one : (t : Tok) (rest : List Tok) (b : Bool) → left.tokens ≡ t ∷ rest → is t ≡ b → Each left (met {A = Unit {0}} left.refused (if b then Ok (tt, rest) else Err (length (t ∷ rest)))) (λ _ l. Passed is left.tokens)
     one t rest false e m = record { it = tt }
-    one t rest true e m = record { it = record {
-      formed = λ a. (subst (λ (l : List Tok). AreFormed l) e a).1;
-      earlier = λ z. z;
-      so = λ a z. record { token = t; rest = rest; first = e; means = m };
-    } }
+    one t rest true e m = record {
+      it = record {
+        formed = λ a. (subst (λ (l : List Tok). AreFormed l) e a).1;
+        earlier = λ z. z;
+        so = λ a z. record { token = t; rest = rest; first = e; means = m };
+      };
+    }
 
     by : (tokens : List Tok) → left.tokens ≡ tokens → Each left (met left.refused (skip is tokens)) (λ _ l. Passed is left.tokens)
     by [] e = record { it = tt }

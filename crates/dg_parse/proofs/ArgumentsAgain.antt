@@ -1,10 +1,10 @@
 -- Arguments are read again.
-use Rattle.std.proofs.Common.{◌≡◌, ℕ, suc, Bool, true, false, List, [], ◌∷◌, ◌++◌, length, flat_map, ap, refl, sym, ◌∙◌, subst, arith}
-use Rattle.std.specs.Prelude.{ℤ, Option, Some, None, Ok, if◌then◌else◌, codes, is_some}
+use Rattle.std.proofs.Common.{◌≡◌, ℕ, suc, Bool, List, [], ◌∷◌, ◌++◌, flat_map, refl, sym, subst, arith}
+use Rattle.std.specs.Prelude.{Some, codes}
 use Rattle.std.specs.List.{AllByRecursion}
-use Rattle.dg_text.specs.Cases.{Left, Reader, part, mark, repeated, optional}
+use Rattle.dg_text.specs.Cases.{Left, optional}
 use Rattle.dg_text.specs.Marks.{open_round, close_round, comma, colon}
-use Rattle.dg_text.specs.Reading.{next, one_as, and_then}
+use Rattle.dg_text.specs.Reading.{next}
 use Rattle.dg_text.specs.Said.{uid_meant}
 use Rattle.dg_text.specs.Tokens.{Tok, is_punct, is_word}
 use Rattle.dg_parse.specs.declared.query.QArg.{QArg}
@@ -14,15 +14,15 @@ use Rattle.dg_parse.specs.declared.query.QOrder.TheVariants as orders
 use Rattle.dg_parse.specs.declared.words.ArgWord.{ArgWord}
 use Rattle.dg_parse.specs.declared.words.ArgWord.TheVariants as words
 use Rattle.dg_parse.specs.Arguments.{val_order, pred_order, order, int_arg, node_arg, order_arg, value_of, arg, comma_arg, more_args, begins_arg, some_args, bracketed_args}
-use Rattle.dg_parse.specs.Printed.{in_round, commas, order_words, arg_text, value_words, arg_words, args_words}
+use Rattle.dg_parse.specs.Printed.{commas, order_words, arg_text, value_words, arg_words, args_words}
 use Rattle.dg_text.specs.Spelling.{name_word, uid_word, mark_word}
 use Rattle.dg_parse.specs.Words.{argument_meant}
 use Rattle.dg_text.specs.Written.{Word, IsWord}
-use Rattle.dg_parse.proofs.Again.{Each, Reads, bind, gives, weaker, either, at_one, at_skip, unbarred, words_append, never, at, on, tok_from, behind, on_append}
+use Rattle.dg_parse.proofs.Again.{Each, Reads, bind, gives, weaker, either, at_one, at_skip, words_append, never, on, tok_from, behind, on_append}
 use Rattle.dg_parse.proofs.FixedWords.{fixed, sign}
 use Rattle.dg_parse.proofs.Formed.{IsSpelled}
 use Rattle.dg_parse.proofs.FunctionsAgain.{not_count}
-use Rattle.dg_parse.proofs.Lists.{Added, AddedAll, Items, Repeats, at_repeated, repeated_reads, all_of, items_of}
+use Rattle.dg_parse.proofs.Lists.{Added, Repeats, at_repeated, repeated_reads, all_of, items_of}
 use Rattle.dg_parse.proofs.LiteralsAgain.{is_comma}
 use Rattle.dg_parse.proofs.NamesAgain.{IsPred, IsNumber, at_int, int_reads, at_pred, pred_reads, at_val, val_reads}
 

@@ -1,27 +1,24 @@
 -- Blocks and queries are read again.
-use Rattle.std.proofs.Common.{◌≡◌, ℕ, zero, suc, ◌<◌, ◌==◌, Bool, true, false, ◌||◌, List, [], ◌∷◌, ◌++◌, flat_map, length, ap, refl, sym, ◌∙◌, subst, arith, length-append}
-use Rattle.std.specs.Prelude.{Option, Some, None, Ok, is_some, not, ◌&&◌, codes, if◌then◌else◌}
+use Rattle.std.proofs.Common.{◌≡◌, ℕ, suc, ◌<◌, ◌==◌, Bool, true, false, ◌||◌, List, [], ◌∷◌, ◌++◌, flat_map, length, ap, refl, sym, ◌∙◌, subst, arith, length-append}
+use Rattle.std.specs.Prelude.{Option, Some, None, Ok, is_some, not, ◌&&◌, codes}
 use Rattle.std.proofs.lemmas.Bool.{false≢true}
-use Rattle.dg_text.specs.Cases.{Left, Reader, part, mark, word, optional, repeated}
+use Rattle.dg_text.specs.Cases.{Left, optional, repeated}
 use Rattle.dg_text.specs.Marks.{open_round, close_round, open_curly, close_curly, comma, colon}
-use Rattle.dg_text.specs.Reading.{next, next_two, one_as, and_then}
+use Rattle.dg_text.specs.Reading.{next}
 use Rattle.dg_text.specs.Tokens.{Tok, is_name, is_punct, is_word}
 use Rattle.dg_text.specs.Words.{name_meant}
 use Rattle.dg_parse.specs.declared.blocks.Head.{Head}
-use Rattle.dg_parse.specs.declared.blocks.Root.{Root}
 use Rattle.dg_parse.specs.declared.directives.Marks.{Marks}
 use Rattle.dg_parse.specs.declared.directives.Owner.{Owner}
 use Rattle.dg_parse.specs.declared.items.Around.{Around}
 use Rattle.dg_parse.specs.declared.query.QArg.{QArg}
 use Rattle.dg_parse.specs.declared.query.QBlock.{QBlock}
 use Rattle.dg_parse.specs.declared.query.QDir.{QDir}
-use Rattle.dg_parse.specs.declared.query.QField.{QField}
 use Rattle.dg_parse.specs.declared.query.QFunc.{QFunc}
 use Rattle.dg_parse.specs.declared.query.Query.{Query}
 use Rattle.dg_parse.specs.Arguments.{more_args}
 use Rattle.dg_parse.specs.Directives.{all_dirs, unmarked}
 use Rattle.dg_parse.specs.Fields.{fields}
-use Rattle.dg_parse.specs.Functions.{func}
 use Rattle.dg_parse.specs.Grammar.{root_part, no_root, is_second, head, block, braced_blocks, query}
 use Rattle.dg_parse.specs.Names.{Defined, variable, any_variable}
 use Rattle.dg_parse.specs.Printed.{in_round, arg_words, dir_words, func_words}
@@ -29,8 +26,8 @@ use Rattle.dg_parse.specs.PrintedQuery.{var_words, field_words, root_words, bloc
 use Rattle.dg_text.specs.Spelling.{name_word, mark_word}
 use Rattle.dg_text.specs.Written.{Word, IsWord}
 use Rattle.dg_parse.proofs.Again.{Each, Reads, AreWords, bind, gives, weaker, either, at_skip, at_also, at_here, at_one, some_took, words_append, never, at, on, tok_from, behind, on_append}
-use Rattle.dg_parse.proofs.ArgumentsAgain.{is_open, AreArgs, at_more_args, more_args_read}
-use Rattle.dg_parse.proofs.DirectivesAgain.{AreDirs, at_dirs, SameMarks, SameOwner, DirsAgain, ReadDirs, dirs_read}
+use Rattle.dg_parse.proofs.ArgumentsAgain.{AreArgs, at_more_args, more_args_read}
+use Rattle.dg_parse.proofs.DirectivesAgain.{AreDirs, at_dirs, SameOwner, DirsAgain, ReadDirs, dirs_read}
 use Rattle.dg_parse.proofs.FieldWords.{IsAnyName, AreFields}
 use Rattle.dg_parse.proofs.FieldsAgain.{ends_fields, fields_read}
 use Rattle.dg_parse.proofs.LiteralsAgain.{is_comma}
@@ -38,7 +35,7 @@ use Rattle.dg_parse.proofs.FieldsRead.{IsVar, at_any_variable, at_fields}
 use Rattle.dg_parse.proofs.FixedWords.{fixed, sign}
 use Rattle.dg_parse.proofs.FunctionsAgain.{IsFuncAt, at_func, func_reads}
 use Rattle.dg_parse.proofs.Lists.{Added, Items, Repeats, at_repeated, repeated_reads, or_first, or_second}
-use Rattle.dg_parse.proofs.NamesAgain.{at_name, took_name}
+use Rattle.dg_parse.proofs.NamesAgain.{took_name}
 
 -- ---- what is read
 
@@ -51,10 +48,10 @@ at_root : (left : Left) → Each left (optional (next (is_word (codes "func"))) 
 unfolding root_part
 at_root left = either (next (is_word (codes "func")) left.tokens)
     (λ e. bind _ (at_skip (is_word (codes "func")) left)
-        (λ _ l. bind _ (at_skip (is_punct colon) l)
-        (λ _ k. bind _ (at_func true k)
-        (λ f m. bind _ (at_more_args m)
-        (λ args n. gives (record { func = Some f; args = args }) n (λ ha hf _ _. (hf, ha)))))))
+    (λ _ l. bind _ (at_skip (is_punct colon) l)
+    (λ _ k. bind _ (at_func true k)
+    (λ f m. bind _ (at_more_args m)
+    (λ args n. gives (record { func = Some f; args = args }) n (λ ha hf _ _. (hf, ha)))))))
     (λ e. gives no_root left refl)
 
 -- what owns the directives of a block
@@ -128,8 +125,17 @@ at_block before left =
       item = record { var = h.var; name = h.name; func = h.root.func; args = h.root.args; dirs = m.dirs; fields = fs };
       is = refl;
       good = record {
-        var = hh.var; var_fits = hh.var_fits; name = hh.name; new = hh.new; root = hh.root; as_place = h.as_place; placed = hh.as_place;
-        marks = m; dirs_are = hd; dirs_is = refl; fields_are = hf;
+        var = hh.var;
+        var_fits = hh.var_fits;
+        name = hh.name;
+        new = hh.new;
+        root = hh.root;
+        as_place = h.as_place;
+        placed = hh.as_place;
+        marks = m;
+        dirs_are = hd;
+        dirs_is = refl;
+        fields_are = hf;
       };
     }))))))
 
@@ -170,8 +176,11 @@ root_reads (Some fn) args h =
       words = (fixed (codes "func") refl, (sign 58 refl, words_append (func_words fn) ws (func_reads true fn h.0).words more.words));
       again = λ f rest e.
           let g : ℕ → ℕ = λ n. f (suc (suc n)) in
-          rw (on_append g (func_words fn) ws rest, (func_reads true fn h.0).again g (on (behind g (func_words fn)) ws rest) refl,
-              more.again (behind g (func_words fn)) rest (or_second (next (is_word (codes "func")) rest) (is_comma rest) e)) refl;
+          rw (
+            on_append g (func_words fn) ws rest,
+            (func_reads true fn h.0).again g (on (behind g (func_words fn)) ws rest) refl,
+            more.again (behind g (func_words fn)) rest (or_second (next (is_word (codes "func")) rest) (is_comma rest) e),
+          ) refl;
     }
 
 -- what stands in front of the directives is read again
@@ -217,10 +226,15 @@ block_reads before b h =
     let dirs_words : AreWords dirs = subst (λ (l : List QDir). AreWords (flat_map dir_words l)) h.dirs_is dirs_are.words in
     record {
       words =
-          words_append (var_words b.var) _ (any_var_words b.var h.var)
-          (h.name, (sign 40 refl, words_append (root ++ mark_word 41 ∷ []) (behind_head b)
-              (words_append root (mark_word 41 ∷ []) (root_reads b.func b.args h.root).words (sign 41 refl, tt))
-              (words_append dirs (mark_word 123 ∷ (inner ++ mark_word 125 ∷ [])) dirs_words (sign 123 refl, words_append inner (mark_word 125 ∷ []) fs.words (sign 125 refl, tt)))));
+          words_append (var_words b.var) _ (any_var_words b.var h.var) (
+            h.name,
+            (
+              sign 40 refl,
+              words_append (root ++ mark_word 41 ∷ []) (behind_head b)
+                  (words_append root (mark_word 41 ∷ []) (root_reads b.func b.args h.root).words (sign 41 refl, tt))
+                  (words_append dirs (mark_word 123 ∷ (inner ++ mark_word 125 ∷ [])) dirs_words (sign 123 refl, words_append inner (mark_word 125 ∷ []) fs.words (sign 125 refl, tt))),
+            ),
+          );
       again = λ f rest _.
           let f1 : ℕ → ℕ = behind f (var_words b.var) in
           let f2 : ℕ → ℕ = λ n. f1 (suc (suc n)) in
@@ -233,13 +247,13 @@ block_reads before b h =
           let t5 : List Tok = tok_from (f5 0) (mark_word 123) ∷ on f6 inner last in
           let t3 : List Tok = on f3 dirs t5 in
           let split3 : on f3 (behind_head b) rest ≡ t3 =
-              on_append f3 dirs (mark_word 123 ∷ (inner ++ mark_word 125 ∷ [])) rest ∙ ap (λ l. on f3 dirs (tok_from (f5 0) (mark_word 123) ∷ l)) (on_append f6 inner (mark_word 125 ∷ []) rest) in
+          on_append f3 dirs (mark_word 123 ∷ (inner ++ mark_word 125 ∷ [])) rest ∙ ap (λ l. on f3 dirs (tok_from (f5 0) (mark_word 123) ∷ l)) (on_append f6 inner (mark_word 125 ∷ []) rest) in
           let split : on f (block_words b) rest ≡ on f (var_words b.var) (tok_from (f1 0) (name_word b.name) ∷ tok_from (f1 1) (mark_word 40) ∷ on f2 root (tok_from (f4 0) (mark_word 41) ∷ t3)) =
-              on_append f (var_words b.var) (name_word b.name ∷ mark_word 40 ∷ ((root ++ mark_word 41 ∷ []) ++ behind_head b)) rest
-              ∙ ap (λ l. on f (var_words b.var) (tok_from (f1 0) (name_word b.name) ∷ tok_from (f1 1) (mark_word 40) ∷ l))
-                  (on_append f2 (root ++ mark_word 41 ∷ []) (behind_head b) rest ∙ on_append f2 root (mark_word 41 ∷ []) (on f3 (behind_head b) rest) ∙ ap (λ l. on f2 root (tok_from (f4 0) (mark_word 41) ∷ l)) split3) in
+          on_append f (var_words b.var) (name_word b.name ∷ mark_word 40 ∷ ((root ++ mark_word 41 ∷ []) ++ behind_head b)) rest
+          ∙ ap (λ l. on f (var_words b.var) (tok_from (f1 0) (name_word b.name) ∷ tok_from (f1 1) (mark_word 40) ∷ l))
+          (on_append f2 (root ++ mark_word 41 ∷ []) (behind_head b) rest ∙ on_append f2 root (mark_word 41 ∷ []) (on f3 (behind_head b) rest) ∙ ap (λ l. on f2 root (tok_from (f4 0) (mark_word 41) ∷ l)) split3) in
           let hd : HeadAgain before b (on f (var_words b.var) (tok_from (f1 0) (name_word b.name) ∷ tok_from (f1 1) (mark_word 40) ∷ on f2 root (tok_from (f4 0) (mark_word 41) ∷ t3))) t3 =
-              head_again before b h f f1 f2 (f4 0) t3 in
+          head_again before b h f f1 f2 (f4 0) t3 in
           let owner : Owner = block_owner (is_some b.func) hd.as_place in
           let same_owner : SameOwner (block_owner (is_some b.func) h.as_place) owner = record { block = refl; has_func = refl; recurse = refl; as_place = λ z. hd.placed (h.placed z) } in
           let again : DirsAgain owner h.marks (on f3 (flat_map dir_words h.marks.dirs) t5) t5 = dirs_are.again owner same_owner f3 t5 refl in

@@ -1,28 +1,24 @@
 -- Directives are read again.
 use Rattle.std.proofs.Common.{◌≡◌, ℕ, zero, suc, ◌<◌, ◌≤◌, ◌==◌, Bool, true, false, ◌||◌, List, [], ◌∷◌, ◌++◌, length, flat_map, ap, refl, sym, ◌∙◌, subst, append_assoc, append-nil, arith, length-append}
-use Rattle.std.specs.Prelude.{Option, Some, None, Ok, not, if◌then◌else◌, ◌&&◌, codes, is_some, max}
+use Rattle.std.specs.Prelude.{Ok, not, if◌then◌else◌, ◌&&◌, codes}
 use Rattle.std.proofs.lemmas.Bool.{false≢true}
-use Rattle.std.proofs.lemmas.Bool.Decides.{nat_tests}
-use Rattle.dg_text.specs.Cases.{Left, Reader, part, mark, upon, optional}
+use Rattle.dg_text.specs.Cases.{Left, upon}
 use Rattle.dg_text.specs.Marks.{open_round, close_round}
-use Rattle.dg_text.specs.Reading.{next, one_as, and_then, turns}
+use Rattle.dg_text.specs.Reading.{and_then, turns}
 use Rattle.dg_text.specs.Tokens.{Tok, is_punct}
 use Rattle.dg_text.proofs.Fronts.{positive}
 use Rattle.dg_parse.specs.declared.directives.Marks.{Marks}
 use Rattle.dg_parse.specs.declared.directives.Owner.{Owner}
 use Rattle.dg_parse.specs.declared.query.QDir.{QDir}
 use Rattle.dg_parse.specs.declared.query.QDir.TheVariants as dirs
-use Rattle.dg_parse.specs.declared.query.QFilter.{QFilter}
 use Rattle.dg_parse.specs.declared.query.QOpt.{QOpt}
 use Rattle.dg_parse.specs.declared.words.DirWord.{DirWord}
 use Rattle.dg_parse.specs.declared.words.DirWord.TheVariants as kinds
-use Rattle.dg_parse.specs.Directives.{filter_dir, cascade_dir, normalize_dir, recurse_dir, dir_of, is_marked, dir, begins_dir, unmarked, all_dirs, ropts}
-use Rattle.dg_parse.specs.Filters.{filter}
-use Rattle.dg_parse.specs.Printed.{in_round, dir_words, opts_words, filter_words}
-use Rattle.dg_text.specs.Spelling.{at_word, mark_word}
+use Rattle.dg_parse.specs.Directives.{filter_dir, cascade_dir, normalize_dir, recurse_dir, dir_of, is_marked, dir, begins_dir, unmarked, all_dirs}
+use Rattle.dg_parse.specs.Printed.{dir_words, filter_words}
+use Rattle.dg_text.specs.Spelling.{mark_word}
 use Rattle.dg_parse.specs.Words.{directive_meant}
-use Rattle.dg_text.specs.Written.{Word, IsWord}
-use Rattle.dg_parse.proofs.Again.{Each, Reads, AreWords, bind, gives, weaker, either, at_one, at_skip, at_also, at_here, some_took, words_append, never, at, on, tok_from, behind, on_append}
+use Rattle.dg_parse.proofs.Again.{Each, AreWords, bind, gives, weaker, either, at_one, at_skip, at_also, at_here, some_took, words_append, at, on, behind, on_append}
 use Rattle.dg_parse.proofs.ArgumentsAgain.{is_open}
 use Rattle.dg_parse.proofs.FilterWords.{IsFilter}
 use Rattle.dg_parse.proofs.FiltersAgain.{at_filter, filter_reads}
@@ -100,7 +96,10 @@ at_dir_of o m place kinds.Recurse left =
 
 added_dir : (o : Owner) (m : Marks) (place : ℕ) (w : DirWord) (after : Marks) → 0 < place → (not o.has_func || is_marked m w) ≡ false → DirBehind o m place w after → AddedDir o m after
 added_dir o m place w after lt e b = record {
-  item = b.item; place = place; some = lt; is = b.is;
+  item = b.item;
+  place = place;
+  some = lt;
+  is = b.is;
   free = ap (λ v. not o.has_func || is_marked m v) b.of_word ∙ e;
   suits = b.suits lt;
 }
@@ -113,8 +112,8 @@ at_dir o m left =
     (λ w k. bind _ (at_also place (not o.has_func || is_marked m w) k)
     (λ _ n. weaker (at_dir_of o m place w n)
     (λ after q b also took here.
-        let lt : 0 < place = subst (λ (n : ℕ). 0 < n) (sym here) (some_took took) in
-        added_dir o m place w after lt (also.0 lt) b))))
+    let lt : 0 < place = subst (λ (n : ℕ). 0 < n) (sym here) (some_took took) in
+    added_dir o m place w after lt (also.0 lt) b))))
 
 -- directives that were read behind others, and what is remembered then
 pub data DirsTo (o : Owner) : Marks → List QDir → Marks → Type 0 where
@@ -132,7 +131,7 @@ at_dir_turns o zero m left = gives m left (record { items = []; to = None_more m
 at_dir_turns o (suc n) m left =
     either (begins_dir left.tokens)
     (λ b. bind (turns n (upon begins_dir) (dir o)) (at_dir o m left)
-        (λ after k. weaker (at_dir_turns o n after k) (λ end l more added. record { items = added.item ∷ more.items; to = One_more m after end added more.items more.to })))
+    (λ after k. weaker (at_dir_turns o n after k) (λ end l more added. record { items = added.item ∷ more.items; to = One_more m after end added more.items more.to })))
     (λ b. gives m left (record { items = []; to = None_more m }))
 
 pub at_dirs : (o : Owner) (left : Left) → Each left (all_dirs o left) (λ end l. AreDirs o unmarked end)

@@ -1,19 +1,17 @@
 -- Fields as words, and which fields are read with braces at most so deep.
-use Rattle.std.proofs.Common.{◌≡◌, ℕ, zero, suc, ◌<◌, Bool, true, false, ◌||◌, List, [], ◌∷◌, ◌++◌, map, flat_map, length, ap, refl, sym, ◌∙◌, subst}
-use Rattle.std.specs.Prelude.{Option, Some, None, IfSome, is_some, not, ◌&&◌, codes}
+use Rattle.std.proofs.Common.{◌≡◌, ℕ, zero, suc, Bool, true, false, ◌||◌, List, [], ◌∷◌, ◌++◌, map, flat_map, ap, refl, ◌∙◌}
+use Rattle.std.specs.Prelude.{Option, Some, None, is_some, not, ◌&&◌, codes}
 use Rattle.std.specs.Option.{option_map}
 use Rattle.dg_parse.specs.declared.directives.Marks.{Marks}
 use Rattle.dg_parse.specs.declared.directives.Owner.{Owner}
 use Rattle.dg_parse.specs.declared.items.Around.{Around}
-use Rattle.dg_parse.specs.declared.query.AggOp.{AggOp}
 use Rattle.dg_parse.specs.declared.query.QArg.{QArg}
 use Rattle.dg_parse.specs.declared.query.QDir.{QDir}
 use Rattle.dg_parse.specs.declared.query.QEdge.{QEdge}
 use Rattle.dg_parse.specs.declared.query.QField.{QField}
 use Rattle.dg_parse.specs.declared.query.QItem.{QItem}
-use Rattle.dg_parse.specs.declared.query.QItem.TheVariants as items
-use Rattle.dg_parse.specs.declared.query.QItem.TheOpen.{QField-F, QItem-F}
-use Rattle.dg_parse.specs.declared.query.QItem.TheViews.{out-QItem, roll-QItem, roll-out-QItem}
+use Rattle.dg_parse.specs.declared.query.QItem.TheOpen.{QItem-F}
+use Rattle.dg_parse.specs.declared.query.QItem.TheViews.{out-QItem}
 use Rattle.dg_parse.specs.declared.query.QItem.TheFolds.{fold-QItem, map-QItem, fold_out-QItem, fold_out-QField}
 use Rattle.dg_parse.specs.Directives.{unmarked}
 use Rattle.dg_parse.specs.Keys.{edge_text, count_key, val_key, agg_key, is_key, is_alias}

@@ -1,16 +1,13 @@
 -- Fields are read again.
-use Rattle.std.proofs.Common.{◌≡◌, ℕ, zero, suc, ◌<◌, ◌==◌, Bool, true, false, ◌||◌, List, [], ◌∷◌, ◌++◌, flat_map, length, ap, refl, sym, ◌∙◌, subst, arith, length-append}
-use Rattle.std.specs.Prelude.{Option, Some, None, Ok, is_some, not, ◌&&◌, codes, if◌then◌else◌}
+use Rattle.std.proofs.Common.{◌≡◌, ℕ, zero, suc, ◌<◌, Bool, true, false, ◌||◌, List, [], ◌∷◌, ◌++◌, flat_map, length, ap, refl, sym, ◌∙◌, subst, arith, length-append}
+use Rattle.std.specs.Prelude.{Option, Some, None, Ok, is_some, not, ◌&&◌, codes}
 use Rattle.std.specs.Str.{bytes_eq}
 use Rattle.std.proofs.lemmas.Bool.{false≢true}
-use Rattle.dg_text.specs.Cases.{Left, Reader, part, mark, optional, repeated}
-use Rattle.dg_text.specs.Marks.{open_round, close_round, open_curly, close_curly, comma, tilde, colon}
-use Rattle.dg_text.specs.Reading.{next, next_two, one_as, and_then}
+use Rattle.dg_text.specs.Cases.{Reader, optional}
+use Rattle.dg_text.specs.Marks.{open_round, open_curly, comma, colon}
+use Rattle.dg_text.specs.Reading.{next, next_two}
 use Rattle.dg_text.specs.Tokens.{Tok, is_name, is_punct, is_word}
-use Rattle.dg_text.specs.Words.{is_reserved}
-use Rattle.dg_parse.specs.declared.directives.Marks.{Marks}
 use Rattle.dg_parse.specs.declared.directives.Owner.{Owner}
-use Rattle.dg_parse.specs.declared.fronts.Front.{Front}
 use Rattle.dg_parse.specs.declared.items.Around.{Around}
 use Rattle.dg_parse.specs.declared.items.Start.{Start}
 use Rattle.dg_parse.specs.declared.query.AggOp.{AggOp}
@@ -24,23 +21,21 @@ use Rattle.dg_parse.specs.declared.query.QItem.{QItem}
 use Rattle.dg_parse.specs.declared.query.QItem.TheVariants as items
 use Rattle.dg_parse.specs.declared.query.QItem.TheOpen.{QItem-F}
 use Rattle.dg_parse.specs.declared.query.QItem.TheViews.{out-QItem, roll-QItem, roll-out-QItem}
-use Rattle.dg_parse.specs.Arguments.{bracketed_args}
-use Rattle.dg_parse.specs.Directives.{all_dirs, unmarked}
-use Rattle.dg_parse.specs.Fields.{keyed, uid_item, count_uid, count_edge, count_item, val_item, agg_item, braces, edge_item, begins_aggregate, begins_other, item, front, any_comma, field, begins_field, some_fields, fields}
-use Rattle.dg_parse.specs.Keys.{aggregate_word, edge_text, is_key, is_alias}
-use Rattle.dg_parse.specs.Names.{Defined, edge, variable, any_variable, alias, any_alias}
-use Rattle.dg_parse.specs.Printed.{edge_words, args_words, dir_words, in_round, val_words}
-use Rattle.dg_parse.specs.PrintedQuery.{var_words, alias_words, item_words, field_words}
+use Rattle.dg_parse.specs.Directives.{all_dirs}
+use Rattle.dg_parse.specs.Fields.{uid_item, count_uid, count_edge, count_item, val_item, agg_item, braces, edge_item, begins_aggregate, begins_other, item, front, field, begins_field, some_fields, fields}
+use Rattle.dg_parse.specs.Keys.{aggregate_word, is_alias}
+use Rattle.dg_parse.specs.Names.{variable, any_variable, alias, any_alias}
+use Rattle.dg_parse.specs.Printed.{edge_words, args_words, dir_words, val_words}
+use Rattle.dg_parse.specs.PrintedQuery.{var_words, alias_words, field_words}
 use Rattle.dg_text.specs.Spelling.{name_word, at_word, mark_word}
-use Rattle.dg_parse.specs.Words.{aggregate_words, aggregate_meant}
+use Rattle.dg_parse.specs.Words.{aggregate_meant}
 use Rattle.dg_text.specs.Written.{Word, IsWord}
 use Rattle.dg_parse.proofs.Again.{Reads, AreWords, words_append, never, at, on, tok_from, behind, on_append}
-use Rattle.dg_parse.proofs.ArgumentsAgain.{is_open, AreArgs, args_read}
-use Rattle.dg_parse.proofs.DirectivesAgain.{SameMarks, SameOwner, bars_dirs, DirsAgain, ReadDirs, dirs_read}
-use Rattle.dg_parse.proofs.FieldWords.{words_of_item, field_is, Layer, layer_words, item_is, agg_layer, IsNew, edge_owner, AreBraces, IsEdge, IsLayer, IsAnyName, IsField, AreFields} 
+use Rattle.dg_parse.proofs.ArgumentsAgain.{is_open, args_read}
+use Rattle.dg_parse.proofs.DirectivesAgain.{SameOwner, bars_dirs, DirsAgain, ReadDirs, dirs_read}
+use Rattle.dg_parse.proofs.FieldWords.{words_of_item, field_is, Layer, layer_words, item_is, agg_layer, IsNew, edge_owner, AreBraces, IsEdge, IsLayer, IsAnyName, IsField, AreFields}
 use Rattle.dg_parse.proofs.FieldWords as shown
 use Rattle.dg_parse.proofs.FixedWords.{fixed, sign}
-use Rattle.dg_parse.proofs.FunctionsAgain.{not_count}
 use Rattle.dg_parse.proofs.Lists.{Items, Repeats, repeated_reads}
 use Rattle.dg_parse.proofs.NamesAgain.{IsPred, edge_reads, val_reads, round_name_reads}
 
@@ -244,9 +239,16 @@ module _ (b : Around) (I : List QField → Type 0) (inner : Reader (List QField)
             let again : DirsAgain (edge_owner b) h.marks (on f2 (flat_map dir_words h.marks.dirs) t3) t3 = dirs_are.again (edge_owner b) (same_owner (edge_owner b)) f2 t3 (braces_bar fields f3 start rest) in
             let read : all_dirs (edge_owner b) (at (on f2 (flat_map dir_words ds) t3)) ≡ Ok (again.after, at t3) = subst (λ (l : List QDir). all_dirs (edge_owner b) (at (on f2 (flat_map dir_words l) t3)) ≡ Ok (again.after, at t3)) h.dirs_is again.is in
             let same : again.after.dirs ≡ ds = again.same.dirs ∙ h.dirs_is in
-            rw (on_append f (edge_words e) (args_words args ++ tail) c, (edge_reads e h.pred).again f (on f1 (args_words args ++ tail) c) refl, h.key,
-                on_append f1 (args_words args) tail c, (args_read args h.args_are).again f1 (on f2 tail c) (dirs_bar ds fields f2 start rest),
-                on_append f2 (flat_map dir_words ds) (shown.braces fields) c, read, braces_read fields h.braces_are f3 start rest)
+            rw (
+              on_append f (edge_words e) (args_words args ++ tail) c,
+              (edge_reads e h.pred).again f (on f1 (args_words args ++ tail) c) refl,
+              h.key,
+              on_append f1 (args_words args) tail c,
+              (args_read args h.args_are).again f1 (on f2 tail c) (dirs_bar ds fields f2 start rest),
+              on_append f2 (flat_map dir_words ds) (shown.braces fields) c,
+              read,
+              braces_read fields h.braces_are f3 start rest,
+            )
             (ap (λ (l : List QDir). Ok (items.Edge e args l fields, at c)) same);
       }
 
@@ -272,9 +274,12 @@ module _ (b : Around) (I : List QField → Type 0) (inner : Reader (List QField)
     words = (fixed (codes "count") refl, (sign 40 refl, words_append (edge_words e) (mark_word 41 ∷ []) (edge_reads e h.0).words (sign 41 refl, tt)));
     again = λ f start rest.
         let g : ℕ → ℕ = λ n. f (suc (suc n)) in
-        rw (edge_no_word (codes "uid") e (mark_word 41 ∷ []) (not_kept e.pred h.0).uid g (comma_tok start ∷ rest),
-            on_append g (edge_words e) (mark_word 41 ∷ []) (comma_tok start ∷ rest),
-            (edge_reads e h.0).again g (on (behind g (edge_words e)) (mark_word 41 ∷ []) (comma_tok start ∷ rest)) refl, h.1) refl;
+        rw (
+          edge_no_word (codes "uid") e (mark_word 41 ∷ []) (not_kept e.pred h.0).uid g (comma_tok start ∷ rest),
+          on_append g (edge_words e) (mark_word 41 ∷ []) (comma_tok start ∷ rest),
+          (edge_reads e h.0).again g (on (behind g (edge_words e)) (mark_word 41 ∷ []) (comma_tok start ∷ rest)) refl,
+          h.1,
+        ) refl;
   })
   layer_reads s before (QItem-F.Val x) h = subst (λ (i : QItem). ReadsItem (item b inner s before) i (layer_words (QItem-F.Val x))) (sym (items.rolls-Val x)) (record {
     words = (val_reads x h.0).words;
@@ -292,8 +297,13 @@ module _ (b : Around) (I : List QField → Type 0) (inner : Reader (List QField)
         let vs : List Word = args_words args ++ (flat_map dir_words ds ++ shown.braces fields) in
         let c : List Tok = comma_tok start ∷ rest in
         let k : NotKept e.pred = not_kept e.pred h.pred in
-        rw (edge_no_word (codes "uid") e vs k.uid f c, edge_no_word (codes "count") e vs k.count f c, edge_no_word (codes "val") e vs k.val f c,
-            layer_aggregate (QItem-F.Edge e args ds fields) b I s.has_var s.has_alias before h f c, (edge_item_reads s before e args ds fields h).again f start rest) refl;
+        rw (
+          edge_no_word (codes "uid") e vs k.uid f c,
+          edge_no_word (codes "count") e vs k.count f c,
+          edge_no_word (codes "val") e vs k.val f c,
+          layer_aggregate (QItem-F.Edge e args ds fields) b I s.has_var s.has_alias before h f c,
+          (edge_item_reads s before e args ds fields h).again f start rest,
+        ) refl;
   })
 
   item_reads : (s : Start) (before : List QField) (i : QItem) → IsLayer b I s.has_var s.has_alias before (out-QItem i) → ReadsItem (item b inner s before) i (words_of_item i)
@@ -366,12 +376,12 @@ module _ (b : Around) (I : List QField → Type 0) (inner : Reader (List QField)
   unfolding field
   field_reads before fd h =
       let read : (s : Start) → s.has_var ≡ is_some fd.var → s.has_alias ≡ is_some fd.alias → ReadsItem (item b inner s before) fd.item (words_of_item fd.item) =
-          (λ s v a. item_reads s before fd.item (subst (λ (t : Bool). IsLayer b I t s.has_alias before (out-QItem fd.item)) (sym v) (subst (λ (t : Bool). IsLayer b I (is_some fd.var) t before (out-QItem fd.item)) (sym a) h.layer))) in
+      (λ s v a. item_reads s before fd.item (subst (λ (t : Bool). IsLayer b I t s.has_alias before (out-QItem fd.item)) (sym v) (subst (λ (t : Bool). IsLayer b I (is_some fd.var) t before (out-QItem fd.item)) (sym a) h.layer))) in
       let some : Start = record { has_var = is_some fd.var; as_place = 0; has_alias = is_some fd.alias; place = 0 } in
       let words : AreWords (var_words fd.var ++ (alias_words fd.alias ++ (words_of_item fd.item ++ mark_word comma ∷ []))) =
-          words_append (var_words fd.var) _ (any_name_words fd.var h.var)
-          (words_append (alias_words fd.alias) _ (any_alias_words fd.alias h.alias_name)
-          (words_append (words_of_item fd.item) (mark_word comma ∷ []) (read some refl refl).words (sign 44 refl, tt))) in
+      words_append (var_words fd.var) _ (any_name_words fd.var h.var)
+      (words_append (alias_words fd.alias) _ (any_alias_words fd.alias h.alias_name)
+      (words_append (words_of_item fd.item) (mark_word comma ∷ []) (read some refl refl).words (sign 44 refl, tt))) in
       record {
         words = subst (λ (ws : List Word). AreWords ws) (sym (field_is fd)) words;
         again = λ f rest e.
@@ -386,8 +396,8 @@ module _ (b : Around) (I : List QField → Type 0) (inner : Reader (List QField)
             let agg : begins_aggregate tokens ≡ agg_layer o = ap begins_aggregate as_layer ∙ layer_aggregate o b I (is_some fd.var) (is_some fd.alias) before h.layer f2 c in
             let other : begins_other tokens ≡ not (agg_layer o) = ap begins_other as_layer ∙ layer_other o b I (is_some fd.var) (is_some fd.alias) before h.layer f2 c in
             let fr : FrontAgain before fd.var fd.alias (on f (var_words fd.var) (on f1 (alias_words fd.alias) tokens)) tokens =
-                front_again before fd.var fd.alias f f1 tokens h.var_fits h.alias_new (second (is_word (codes "as")) is_as) (second (is_punct colon) is_colon)
-                (ap (λ t. t && b.has_func) agg ∙ h.agg_fits) (ap (λ t. t && not b.has_func) other ∙ h.other_fits) in
+            front_again before fd.var fd.alias f f1 tokens h.var_fits h.alias_new (second (is_word (codes "as")) is_as) (second (is_punct colon) is_colon)
+            (ap (λ t. t && b.has_func) agg ∙ h.agg_fits) (ap (λ t. t && not b.has_func) other ∙ h.other_fits) in
             ap (λ l. field b inner before (at l)) (field_split fd f rest)
             ∙ rw (fr.is, (read fr.start fr.has_var fr.has_alias).again f2 (f3 0) rest) refl;
       }

@@ -1,38 +1,34 @@
 -- Which fields are read.
-use Rattle.std.proofs.Common.{inl, inr, ◌≡◌, ℕ, zero, suc, ◌<◌, Bool, true, false, ◌||◌, List, [], ◌∷◌, ◌++◌, map, flat_map, length, ap, refl, sym, ◌∙◌, subst, arith}
-use Rattle.std.specs.Prelude.{◌⊎◌, Option, Some, None, Ok, Err, Result, is_some, not, ◌&&◌, codes, if◌then◌else◌, IfOk}
+use Rattle.std.proofs.Common.{inl, inr, ◌≡◌, ℕ, zero, suc, ◌<◌, Bool, true, false, ◌||◌, List, [], ◌∷◌, length, ap, refl, sym, ◌∙◌, subst, arith}
+use Rattle.std.specs.Prelude.{◌⊎◌, Some, None, Ok, Err, is_some, not, ◌&&◌, codes}
 use Rattle.std.specs.Str.{bytes_eq}
 use Rattle.std.proofs.lemmas.Bool.{false≢true}
 use Rattle.std.proofs.lemmas.Slice.Eq.{bytes_eq-Decides}
 use Rattle.dg_table.specs.Words.{named_in}
-use Rattle.dg_text.specs.Cases.{Left, Reader, part, mark, word, name, also_at, also_next, here, optional, repeated}
+use Rattle.dg_text.specs.Cases.{Left, Reader}
 use Rattle.dg_text.specs.Marks.{open_round, close_round, open_curly, close_curly, comma, tilde, colon}
-use Rattle.dg_text.specs.Reading.{Read, next, next_two, one_as, and_then}
+use Rattle.dg_text.specs.Reading.{Read, next, next_two}
 use Rattle.dg_text.specs.Tokens.{Tok, is_name, is_punct, is_word}
 use Rattle.dg_text.specs.Words.{name_meant, is_reserved_name}
 use Rattle.dg_parse.specs.declared.fronts.Front.{Front}
 use Rattle.dg_parse.specs.declared.items.Around.{Around}
 use Rattle.dg_parse.specs.declared.items.Start.{Start}
 use Rattle.dg_parse.specs.declared.query.AggOp.{AggOp}
-use Rattle.dg_parse.specs.declared.query.QEdge.{QEdge}
 use Rattle.dg_parse.specs.declared.query.QField.{QField}
 use Rattle.dg_parse.specs.declared.query.QItem.{QItem}
 use Rattle.dg_parse.specs.declared.query.QItem.TheVariants as items
 use Rattle.dg_parse.specs.declared.query.QItem.TheOpen.{QItem-F}
 use Rattle.dg_parse.specs.declared.query.QItem.TheViews.{out-QItem}
-use Rattle.dg_parse.specs.Directives.{all_dirs}
 use Rattle.dg_parse.specs.Fields.{uid_item, count_uid, count_edge, count_item, val_item, agg_item, braces, edge_item, begins_aggregate, begins_other, item, front, any_comma, field, begins_field, some_fields, fields}
 use Rattle.dg_parse.specs.Keys.{edge_text, count_key, val_key, agg_key, is_key, is_alias}
 use Rattle.dg_parse.specs.Names.{Defined, pred, backwards, edge, variable, any_variable, alias, any_alias}
-use Rattle.dg_text.specs.Spelling.{name_word}
 use Rattle.dg_parse.specs.Words.{aggregate_words, aggregate_meant}
-use Rattle.dg_text.specs.Written.{Word, IsWord}
-use Rattle.dg_parse.proofs.Again.{Good, Each, Took, Passed, bind, gives, weaker, either, at_one, at_skip, at_also, at_here, some_took, some_passed}
+use Rattle.dg_parse.proofs.Again.{Each, Took, Passed, bind, gives, weaker, either, at_one, at_skip, at_also, at_here, some_passed}
 use Rattle.dg_parse.proofs.ArgumentsAgain.{at_args}
 use Rattle.dg_parse.proofs.DirectivesAgain.{at_dirs}
-use Rattle.dg_parse.proofs.FieldWords.{Layer, agg_layer, IsNew, edge_owner, AreBraces, IsEdge, IsLayer, IsAnyName, IsField, AreFields}
-use Rattle.dg_parse.proofs.Lists.{Added, AddedAll, at_repeated, Items}
-use Rattle.dg_parse.proofs.NamesAgain.{IsPred, at_name, took_name, at_pred, at_edge, at_val, at_round_name, says_name}
+use Rattle.dg_parse.proofs.FieldWords.{Layer, agg_layer, edge_owner, AreBraces, IsLayer, IsAnyName, IsField, AreFields}
+use Rattle.dg_parse.proofs.Lists.{Added, at_repeated, Items}
+use Rattle.dg_parse.proofs.NamesAgain.{at_name, at_edge, at_val, at_round_name, says_name}
 
 -- ---- what begins there
 
@@ -91,9 +87,9 @@ edge_first : (left : Left) → Each left (edge left) (λ e l. begins_field left.
 unfolding edge backwards
 edge_first left =
     bind {X = λ _ l. (begins_field left.tokens ≡ true) ⊎ (l.tokens ≡ left.tokens)} _ (either (next (is_punct tilde) left.tokens)
-        (λ e. bind _ (at_skip (is_punct tilde) left) (λ _ l. gives true l (λ p. inl (tilde_first p))))
-        (λ e. gives false left (inr refl)))
-    (λ back l. bind _ (pred_first l) (λ p k. gives _ k (λ h first. elim first [ | inl b ↦ b | inr e ↦ subst (λ (ts : List Tok). begins_field ts ≡ true) e h ])))
+    (λ e. bind _ (at_skip (is_punct tilde) left) (λ _ l. gives true l (λ p. inl (tilde_first p))))
+    (λ e. gives false left (inr refl)))
+    (λ back l. bind _ (pred_first l) (λ p k. gives _ k (λ h first. elim first [ inl b ↦ b | inr e ↦ subst (λ (ts : List Tok). begins_field ts ≡ true) e h ])))
   where
     or_true : (b : Bool) → (b || true) ≡ true
     or_true true = refl
@@ -161,21 +157,21 @@ at_front b before left =
     (λ _ p. bind _ (at_also (length p.tokens) (begins_aggregate p.tokens && b.has_func) p)
     (λ _ q. bind _ (at_also (length q.tokens) (begins_other q.tokens && not b.has_func) q)
     (λ _ r. gives _ r (λ other agg al here ha var hv.
-        let eq : r.tokens ≡ p.tokens = other.1 ∙ agg.1 in
-        let en : r.tokens ≡ n.tokens = eq ∙ al.1 in
-        let at_place : place ≡ length r.tokens = here ∙ sym (ap (λ l. length l) en) in
-        record {
-          var = hv.word;
-          var_fits = var_fits v (not b.has_func || b.recurse) hv var.0;
-          alias_name = ha;
-          alias_new = λ lt. al.0 (subst (λ (n : ℕ). 0 < n) (sym at_place) lt);
-          agg_fits = subst (λ (ts : List Tok). 0 < length ts → (begins_aggregate ts && b.has_func) ≡ false) (sym eq) agg.0;
-          other_fits = subst (λ (ts : List Tok). 0 < length ts → (begins_other ts && not b.has_func) ≡ false) (sym other.1) other.0;
-          has_var = refl;
-          has_alias = refl;
-          as_place = hv.some;
-          place = at_place;
-        }))))))))
+    let eq : r.tokens ≡ p.tokens = other.1 ∙ agg.1 in
+    let en : r.tokens ≡ n.tokens = eq ∙ al.1 in
+    let at_place : place ≡ length r.tokens = here ∙ sym (ap (λ l. length l) en) in
+    record {
+      var = hv.word;
+      var_fits = var_fits v (not b.has_func || b.recurse) hv var.0;
+      alias_name = ha;
+      alias_new = λ lt. al.0 (subst (λ (n : ℕ). 0 < n) (sym at_place) lt);
+      agg_fits = subst (λ (ts : List Tok). 0 < length ts → (begins_aggregate ts && b.has_func) ≡ false) (sym eq) agg.0;
+      other_fits = subst (λ (ts : List Tok). 0 < length ts → (begins_other ts && not b.has_func) ≡ false) (sym other.1) other.0;
+      has_var = refl;
+      has_alias = refl;
+      as_place = hv.some;
+      place = at_place;
+    }))))))))
 
 -- ---- items
 
@@ -216,22 +212,22 @@ module _ (b : Around) (I : List QField → Type 0) (inner : Reader (List QField)
       bind _ (at_skip (is_word (codes "count")) left)
       (λ _ l. bind _ (at_skip (is_punct open_round) l)
       (λ _ k. either (next (is_word (codes "uid")) k.tokens)
-          (λ e. bind _ (at_skip (is_word (codes "uid")) k)
-              (λ _ m. bind _ (at_skip (is_punct close_round) m)
-              (λ _ n. bind _ (at_also s.as_place s.has_var n)
-              (λ _ p. bind _ (at_also s.place b.recurse p)
-              (λ _ q. bind _ (at_also s.place (not s.has_alias && is_key before (codes "count")) q)
-              (λ _ r. gives _ r (λ key rec var _ _ _ word. as_item s before left.tokens items.CountUid QItem-F.CountUid items.outs-CountUid (record {
-                good = λ pl. (no_var s pl var.0, rec.0 pl.place, key.0 pl.place);
-                begins = word_begins (codes "count") left.tokens refl word;
-              }))))))))
-          (λ e. bind _ (at_edge k)
-              (λ edg m. bind _ (at_skip (is_punct close_round) m)
-              (λ _ n. bind _ (at_also s.place (not s.has_alias && is_key before (count_key edg)) n)
-              (λ _ p. gives _ p (λ key _ h _ word. as_item s before left.tokens (items.Count edg) (QItem-F.Count edg) (items.outs-Count edg) (record {
-                good = λ pl. (h, key.0 pl.place);
-                begins = word_begins (codes "count") left.tokens refl word;
-              }))))))))
+      (λ e. bind _ (at_skip (is_word (codes "uid")) k)
+      (λ _ m. bind _ (at_skip (is_punct close_round) m)
+      (λ _ n. bind _ (at_also s.as_place s.has_var n)
+      (λ _ p. bind _ (at_also s.place b.recurse p)
+      (λ _ q. bind _ (at_also s.place (not s.has_alias && is_key before (codes "count")) q)
+      (λ _ r. gives _ r (λ key rec var _ _ _ word. as_item s before left.tokens items.CountUid QItem-F.CountUid items.outs-CountUid (record {
+        good = λ pl. (no_var s pl var.0, rec.0 pl.place, key.0 pl.place);
+        begins = word_begins (codes "count") left.tokens refl word;
+      }))))))))
+      (λ e. bind _ (at_edge k)
+      (λ edg m. bind _ (at_skip (is_punct close_round) m)
+      (λ _ n. bind _ (at_also s.place (not s.has_alias && is_key before (count_key edg)) n)
+      (λ _ p. gives _ p (λ key _ h _ word. as_item s before left.tokens (items.Count edg) (QItem-F.Count edg) (items.outs-Count edg) (record {
+        good = λ pl. (h, key.0 pl.place);
+        begins = word_begins (codes "count") left.tokens refl word;
+      }))))))))
 
   at_val_item : (s : Start) (before : List QField) (left : Left) → Each left (val_item s before left) (λ i l. ReadItem s before left.tokens i)
   unfolding val_item
@@ -266,9 +262,9 @@ module _ (b : Around) (I : List QField → Type 0) (inner : Reader (List QField)
       (λ _ k. bind _ (one k)
       (λ fs m. bind _ (at_skip (is_punct close_curly) m)
       (λ _ n. gives (Some fs) n (λ _ h p also.
-          let some : 0 < length left.tokens = subst (λ (ts : List Tok). 0 < length ts) also.1 (some_passed p) in
-          let test : (next (is_punct open_curly) left.tokens && b.recurse) ≡ false = also.0 some in
-          (rw e at test, h))))))
+      let some : 0 < length left.tokens = subst (λ (ts : List Tok). 0 < length ts) also.1 (some_passed p) in
+      let test : (next (is_punct open_curly) left.tokens && b.recurse) ≡ false = also.0 some in
+      (rw e at test, h))))))
 
   at_edge_item : (s : Start) (before : List QField) (left : Left) → begins_aggregate left.tokens ≡ false → Each left (edge_item b inner s before left) (λ i l. ReadItem s before left.tokens i)
   unfolding edge_item
@@ -288,12 +284,12 @@ module _ (b : Around) (I : List QField → Type 0) (inner : Reader (List QField)
   at_item s before left = either (next (is_word (codes "uid")) left.tokens)
       (λ e. at_uid s before left)
       (λ e. either (next (is_word (codes "count")) left.tokens)
-          (λ e. at_count s before left)
-          (λ e. either (next (is_word (codes "val")) left.tokens)
-              (λ e. at_val_item s before left)
-              (λ e. either (begins_aggregate left.tokens)
-                  (λ e. at_agg s before left)
-                  (λ none. at_edge_item s before left none))))
+      (λ e. at_count s before left)
+      (λ e. either (next (is_word (codes "val")) left.tokens)
+      (λ e. at_val_item s before left)
+      (λ e. either (begins_aggregate left.tokens)
+      (λ e. at_agg s before left)
+      (λ none. at_edge_item s before left none))))
 
   -- ---- fields
 

@@ -1,12 +1,12 @@
 -- Filters as words, and which filters are read with brackets at most so deep.
-use Rattle.std.proofs.Common.{◌≡◌, ℕ, zero, suc, ◌≤◌, Bool, true, false, List, [], ◌∷◌, ◌++◌, map, flat_map, ap, refl, sym, ◌∙◌, subst}
+use Rattle.std.proofs.Common.{◌≡◌, ℕ, zero, suc, false, List, [], ◌∷◌, ◌++◌, map, flat_map, ap, refl, sym, ◌∙◌, subst}
 use Rattle.std.specs.Prelude.{codes}
 use Rattle.std.specs.List.{AllByRecursion}
 use Rattle.dg_parse.specs.declared.query.QFilter.{QFilter}
 use Rattle.dg_parse.specs.declared.query.QFunc.{QFunc}
 use Rattle.dg_parse.specs.declared.query.QPart.{QPart}
 use Rattle.dg_parse.specs.declared.query.QPart.TheVariants as parts
-use Rattle.dg_parse.specs.declared.query.QPart.TheOpen.{QFilter-F, QPart-F}
+use Rattle.dg_parse.specs.declared.query.QPart.TheOpen.{QPart-F}
 use Rattle.dg_parse.specs.declared.query.QPart.TheViews.{out-QPart, roll-QPart, roll-out-QPart}
 use Rattle.dg_parse.specs.declared.query.QPart.TheFolds.{fold-QPart, fold_out-QPart, fold_out-QFilter}
 use Rattle.dg_parse.specs.Filters.{plainly}

@@ -1,10 +1,10 @@
 -- Filters are read again.
-use Rattle.std.proofs.Common.{◌≡◌, ℕ, zero, suc, ◌<◌, ◌≤◌, ◌+◌, Bool, true, false, ◌||◌, List, [], ◌∷◌, ◌++◌, length, flat_map, ap, refl, sym, ◌∙◌, subst, arith}
-use Rattle.std.specs.Prelude.{Ok, if◌then◌else◌, ◌&&◌, codes}
+use Rattle.std.proofs.Common.{◌≡◌, ℕ, zero, suc, ◌≤◌, ◌+◌, Bool, true, false, ◌||◌, List, [], ◌∷◌, ◌++◌, length, flat_map, ap, refl, sym, ◌∙◌, subst, arith}
+use Rattle.std.specs.Prelude.{Ok, codes}
 use Rattle.std.specs.List.{AllByRecursion}
-use Rattle.dg_text.specs.Cases.{Left, Reader, part, mark, upon, repeated}
+use Rattle.dg_text.specs.Cases.{Left, upon, repeated}
 use Rattle.dg_text.specs.Marks.{open_round, close_round}
-use Rattle.dg_text.specs.Reading.{next, one_as, and_then, turns}
+use Rattle.dg_text.specs.Reading.{next, turns}
 use Rattle.dg_text.specs.Tokens.{Tok, is_punct, is_word_any_case}
 use Rattle.dg_parse.specs.declared.query.CmpOp.{CmpOp}
 use Rattle.dg_parse.specs.declared.query.CmpOp.TheVariants as ops
@@ -16,16 +16,15 @@ use Rattle.dg_parse.specs.declared.query.QPart.{QPart}
 use Rattle.dg_parse.specs.declared.query.QPart.TheVariants as parts
 use Rattle.dg_parse.specs.declared.query.QPart.TheOpen.{QPart-F}
 use Rattle.dg_parse.specs.declared.query.QPart.TheViews.{out-QPart}
-use Rattle.dg_parse.specs.Filters.{one_not, plainly, negated, func_alone, bracketed, atom, not_of, and_more, and_rest, and_of, or_more, or_rest, or_of, filter}
-use Rattle.dg_parse.specs.Functions.{func}
-use Rattle.dg_parse.specs.Printed.{Shown, shown, shown_alone, shown_or, shown_and, nots, func_words, between_words, in_round, filter_words}
+use Rattle.dg_parse.specs.Filters.{one_not, plainly, func_alone, bracketed, atom, not_of, and_more, and_rest, and_of, or_more, or_rest, or_of, filter}
+use Rattle.dg_parse.specs.Printed.{shown, shown_alone, shown_or, shown_and, nots, func_words, in_round, filter_words}
 use Rattle.dg_text.specs.Spelling.{name_word, mark_word}
-use Rattle.dg_text.specs.Written.{Word, IsWord}
-use Rattle.dg_parse.proofs.Again.{Each, Reads, AreWords, bind, gives, weaker, either, at_skip, then_reads, last_reads, as_reader, unbarred, words_append, never, at, on, tok_from, behind, on_append}
-use Rattle.dg_parse.proofs.FilterWords.{Layer, shown_of, shown_is, or_words, and_words, shown_as_or, shown_as_and, shown_as_func, part_or, part_and, part_func, AreTwo, AreParts, not_case, IsNot, and_case, IsAnd, or_case, IsOr, IsFilter, in_brackets, not_and, and_or}
+use Rattle.dg_text.specs.Written.{Word}
+use Rattle.dg_parse.proofs.Again.{Each, Reads, AreWords, bind, gives, either, at_skip, words_append, never, at, on, behind, on_append}
+use Rattle.dg_parse.proofs.FilterWords.{Layer, shown_is, or_words, and_words, shown_as_or, shown_as_and, shown_as_func, part_or, part_and, part_func, AreTwo, AreParts, not_case, IsNot, and_case, IsAnd, or_case, IsOr, IsFilter, in_brackets, not_and, and_or}
 use Rattle.dg_parse.proofs.FixedWords.{fixed, sign}
 use Rattle.dg_parse.proofs.FunctionsAgain.{IsFuncAt, at_func, func_reads}
-use Rattle.dg_parse.proofs.Lists.{Added, AddedAll, AddedSome, Items, Repeats, at_repeated, at_repeated_some, at_any_turns, repeated_reads, or_first, or_second}
+use Rattle.dg_parse.proofs.Lists.{Added, AddedSome, Items, Repeats, at_repeated_some, at_any_turns, repeated_reads, or_first, or_second}
 
 -- "and", "or" or "not" comes next
 abbrev begins_and : List Tok → Bool
@@ -52,9 +51,9 @@ module _ (depth : ℕ) (one : (l : Left) → Each l (filter depth l) (λ f k. Is
   unfolding atom bracketed func_alone
   at_atom left = either (next (is_punct open_round) left.tokens)
       (λ e. bind _ (at_skip (is_punct open_round) left)
-          (λ _ l. bind _ (one l)
-          (λ f k. bind _ (at_skip (is_punct close_round) k)
-          (λ _ m. gives f m (λ _ h _. in_brackets depth f h)))))
+      (λ _ l. bind _ (one l)
+      (λ f k. bind _ (at_skip (is_punct close_round) k)
+      (λ _ m. gives f m (λ _ h _. in_brackets depth f h)))))
       (λ e. bind _ (at_func false left) (λ fn l. gives _ l (λ h. func_not fn h)))
     where
       func_not : (fn : QFunc) → IsFuncAt false fn → IsNot (At depth) (plainly (parts.Func fn))
@@ -89,9 +88,9 @@ module _ (depth : ℕ) (one : (l : Left) → Each l (filter depth l) (λ f k. Is
   at_and left =
       bind _ (at_not left)
       (λ first l. either (begins_and l.tokens)
-          (λ e. bind _ (at_repeated_some begins_and (and_more (filter depth)) (λ _ f. IsNot (At depth) f) at_and_more refl (first ∷ []) l e)
-              (λ all k. gives _ k (λ a h. more_and first all h a)))
-          (λ e. gives first l (λ h. not_and depth first h)))
+      (λ e. bind _ (at_repeated_some begins_and (and_more (filter depth)) (λ _ f. IsNot (At depth) f) at_and_more refl (first ∷ []) l e)
+      (λ all k. gives _ k (λ a h. more_and first all h a)))
+      (λ e. gives first l (λ h. not_and depth first h)))
 
   at_or_more : (before : List QFilter) (left : Left) → Each left (or_more (filter depth) before left) (λ all l. Added (λ _ f. IsAnd (At depth) f) before all)
   unfolding or_more
@@ -115,9 +114,9 @@ module _ (depth : ℕ) (one : (l : Left) → Each l (filter depth l) (λ f k. Is
   at_or left =
       bind _ (at_and left)
       (λ first l. either (begins_or l.tokens)
-          (λ e. bind _ (at_repeated_some begins_or (or_more (filter depth)) (λ _ f. IsAnd (At depth) f) at_or_more refl (first ∷ []) l e)
-              (λ all k. gives _ k (λ a h. more_or first all h a)))
-          (λ e. gives first l (λ h. and_or depth first h)))
+      (λ e. bind _ (at_repeated_some begins_or (or_more (filter depth)) (λ _ f. IsAnd (At depth) f) at_or_more refl (first ∷ []) l e)
+      (λ all k. gives _ k (λ a h. more_or first all h a)))
+      (λ e. gives first l (λ h. and_or depth first h)))
 
 pub at_filter : (depth : ℕ) (left : Left) → Each left (filter depth left) (λ f k. IsFilter depth f)
 unfolding filter IsFilter
@@ -254,8 +253,8 @@ module _ (depth : ℕ) (ih : (f : QFilter) → IsFilter depth f → Reads (filte
   ands_read a b more h =
       let words : List Word = flat_map (λ f. name_word (codes "and") ∷ (shown f).as_not) (b ∷ more) in
       let rest : Reads (repeated begins_and (and_more (filter depth)) (a ∷ [])) (a ∷ b ∷ more) words ends_and =
-          repeated_reads begins_and (and_more (filter depth)) (λ _ f. IsNot (At depth) f) (λ f. name_word (codes "and") ∷ (shown f).as_not) never and_repeats (a ∷ []) (b ∷ more)
-          (items_of (λ f. IsNot (At depth) f) (a ∷ []) (b ∷ more) h.1) in
+      repeated_reads begins_and (and_more (filter depth)) (λ _ f. IsNot (At depth) f) (λ f. name_word (codes "and") ∷ (shown f).as_not) never and_repeats (a ∷ []) (b ∷ more)
+      (items_of (λ f. IsNot (At depth) f) (a ∷ []) (b ∷ more) h.1) in
       record {
         words = words_append (shown a).as_not words (not_reads a h.0).words rest.words;
         again = λ f left e.
@@ -278,7 +277,7 @@ module _ (depth : ℕ) (ih : (f : QFilter) → IsFilter depth f → Reads (filte
           let t : AreTwo fs = h.two in
           let all : AllByRecursion (λ f. IsNot (At depth) f) (t.first ∷ t.second ∷ t.more) = subst (λ (l : List QFilter). AllByRecursion (λ f. IsNot (At depth) f) l) t.is h.each in
           let read : Reads (and_of (filter depth)) (plainly (parts.And fs)) (and_words fs) ends_and =
-              subst (λ (l : List QFilter). Reads (and_of (filter depth)) (plainly (parts.And l)) (and_words l) ends_and) (sym t.is) (ands_read t.first t.second t.more all) in
+          subst (λ (l : List QFilter). Reads (and_of (filter depth)) (plainly (parts.And l)) (and_words l) ends_and) (sym t.is) (ands_read t.first t.second t.more all) in
           let it : plainly (parts.And fs) ≡ f = (λ i. record { nots = sym k i; part = sym (part_and f.part fs e) i }) in
           subst (λ (us : List Word). Reads (and_of (filter depth)) f us ends_and) (sym (ap (λ s. s.as_and) same))
           (subst (λ (x : QFilter). Reads (and_of (filter depth)) x (and_words fs) ends_and) it read)
@@ -314,8 +313,8 @@ module _ (depth : ℕ) (ih : (f : QFilter) → IsFilter depth f → Reads (filte
   ors_read a b more h =
       let words : List Word = flat_map (λ f. name_word (codes "or") ∷ (shown f).as_and) (b ∷ more) in
       let rest : Reads (repeated begins_or (or_more (filter depth)) (a ∷ [])) (a ∷ b ∷ more) words ends_or =
-          repeated_reads begins_or (or_more (filter depth)) (λ _ f. IsAnd (At depth) f) (λ f. name_word (codes "or") ∷ (shown f).as_and) ends_and or_repeats (a ∷ []) (b ∷ more)
-          (items_of (λ f. IsAnd (At depth) f) (a ∷ []) (b ∷ more) h.1) in
+      repeated_reads begins_or (or_more (filter depth)) (λ _ f. IsAnd (At depth) f) (λ f. name_word (codes "or") ∷ (shown f).as_and) ends_and or_repeats (a ∷ []) (b ∷ more)
+      (items_of (λ f. IsAnd (At depth) f) (a ∷ []) (b ∷ more) h.1) in
       record {
         words = words_append (shown a).as_and words (and_reads a h.0).words rest.words;
         again = λ f left e.
@@ -339,7 +338,7 @@ module _ (depth : ℕ) (ih : (f : QFilter) → IsFilter depth f → Reads (filte
           let t : AreTwo fs = h.two in
           let all : AllByRecursion (λ f. IsAnd (At depth) f) (t.first ∷ t.second ∷ t.more) = subst (λ (l : List QFilter). AllByRecursion (λ f. IsAnd (At depth) f) l) t.is h.each in
           let read : Reads (or_of (filter depth)) (plainly (parts.Or fs)) (or_words fs) ends_or =
-              subst (λ (l : List QFilter). Reads (or_of (filter depth)) (plainly (parts.Or l)) (or_words l) ends_or) (sym t.is) (ors_read t.first t.second t.more all) in
+          subst (λ (l : List QFilter). Reads (or_of (filter depth)) (plainly (parts.Or l)) (or_words l) ends_or) (sym t.is) (ors_read t.first t.second t.more all) in
           let it : plainly (parts.Or fs) ≡ f = (λ i. record { nots = sym k i; part = sym (part_or f.part fs e) i }) in
           subst (λ (us : List Word). Reads (or_of (filter depth)) f us ends_or) (sym (ap (λ s. s.as_or) same))
           (subst (λ (x : QFilter). Reads (or_of (filter depth)) x (or_words fs) ends_or) it read)

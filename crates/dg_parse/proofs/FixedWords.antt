@@ -1,10 +1,10 @@
 -- The words of the grammar, and its signs, are words.
-use Rattle.std.proofs.Common.{◌≡◌, ℕ, Bool, true, false, List, [], ◌∷◌, ◌++◌, length, ap, refl, sym, ◌∙◌}
+use Rattle.std.proofs.Common.{◌≡◌, ℕ, Bool, true, false, List, [], ◌∷◌, length, ap, refl}
 use Rattle.std.specs.Prelude.{◌&&◌, nat_le, map}
 use Rattle.std.specs.List.{AllByRecursion, list_all, concat}
 use Rattle.std.proofs.lemmas.Bool.{false≢true}
 use Rattle.dg_text.specs.Forms.{is_letter, is_word_byte, is_punct_byte}
-use Rattle.dg_text.specs.Language.{IsNamePiece, IsName, IsAt, IsPunct}
+use Rattle.dg_text.specs.Language.{IsNamePiece, IsName}
 use Rattle.dg_text.specs.Spelling.{name_word, at_word, mark_word}
 use Rattle.dg_text.specs.Written.{IsWord}
 

@@ -1,6 +1,6 @@
 -- What a token of a text is known to be: what it says can be written as a word that says the same.
-use Rattle.std.proofs.Common.{◌≡◌, ℕ, ◌<◌, Bool, true, false, List, [], ◌∷◌, length}
-use Rattle.std.specs.Prelude.{ℤ, Option, Some, None}
+use Rattle.std.proofs.Common.{◌≡◌, ℕ, Bool, true, List}
+use Rattle.std.specs.Prelude.{ℤ, Option, Some}
 use Rattle.std.specs.List.{AllByRecursion}
 use Rattle.dg_text.specs.Patterns.{regex_meant}
 use Rattle.dg_text.specs.Said.{quoted_meant, int_meant, uid_meant}

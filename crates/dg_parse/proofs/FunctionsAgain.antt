@@ -1,36 +1,31 @@
 -- Functions are read again.
-use Rattle.std.proofs.Common.{◌≡◌, ℕ, suc, ◌<◌, Bool, true, false, ◌||◌, List, [], ◌∷◌, ◌++◌, length, ap, refl, sym, ◌∙◌, subst}
-use Rattle.std.specs.Prelude.{Option, Some, None, Ok, not, if◌then◌else◌, ◌&&◌, codes}
+use Rattle.std.proofs.Common.{◌≡◌, ℕ, suc, ◌<◌, Bool, true, false, ◌||◌, List, [], ◌∷◌, ap, refl, sym, ◌∙◌, subst}
+use Rattle.std.specs.Prelude.{Some, Ok, ◌&&◌, codes}
 use Rattle.std.specs.Str.{bytes_eq}
 use Rattle.std.proofs.lemmas.Bool.{false≢true}
-use Rattle.dg_text.specs.Cases.{Left, Reader, part, mark, word, quoted, also_at, here}
+use Rattle.dg_text.specs.Cases.{Left}
 use Rattle.dg_text.specs.Marks.{open_round, close_round, comma}
 use Rattle.dg_text.specs.Patterns.{regex_meant}
-use Rattle.dg_text.specs.Reading.{next, one_as, and_then}
+use Rattle.dg_text.specs.Reading.{next}
 use Rattle.dg_text.specs.Said.{quoted_meant}
 use Rattle.dg_text.specs.Tokens.{Tok, is_punct, is_word}
-use Rattle.dg_text.specs.Words.{is_reserved}
 use Rattle.dg_parse.specs.declared.query.CmpOp.{CmpOp}
 use Rattle.dg_parse.specs.declared.query.CmpOp.TheVariants as ops
-use Rattle.dg_parse.specs.declared.query.QEdge.{QEdge}
 use Rattle.dg_parse.specs.declared.query.QFunc.{QFunc}
 use Rattle.dg_parse.specs.declared.query.QFunc.TheVariants as functions
 use Rattle.dg_parse.specs.declared.query.QOf.{QOf}
 use Rattle.dg_parse.specs.declared.query.QOf.TheVariants as parts
-use Rattle.dg_parse.specs.declared.query.UidArg.{UidArg}
 use Rattle.dg_parse.specs.declared.words.FuncWord.{FuncWord}
 use Rattle.dg_parse.specs.declared.words.FuncWord.TheVariants as words
 use Rattle.dg_parse.specs.Functions.{count_of, val_of, pred_of, of, comparison, between, has, terms, regexp, uid_in, named_uids, arguments_of, is_uid_in, func, takes_many}
-use Rattle.dg_parse.specs.Literals.{uids, lit, lits}
-use Rattle.dg_parse.specs.Names.{edge, pred, val}
-use Rattle.dg_parse.specs.Printed.{in_round, commas, edge_words, val_words, node_words, lit_words, of_words, cmp_text, func_text, inner_words, func_words}
+use Rattle.dg_parse.specs.Printed.{commas, edge_words, node_words, lit_words, of_words, cmp_text, func_text, inner_words, func_words}
 use Rattle.dg_text.specs.Quoting.{quoted_word}
 use Rattle.dg_text.specs.Spelling.{name_word, regex_word, mark_word}
 use Rattle.dg_parse.specs.Words.{function_meant}
-use Rattle.dg_text.specs.Written.{Word, IsWord}
-use Rattle.dg_parse.proofs.Again.{Each, Reads, Took, bind, gives, weaker, either, at_one, at_skip, at_also, at_here, some_took, skip_reads, one_reads, then_reads, last_reads, as_reader, unbarred, words_append, never, at, on, tok_from, behind, on_append}
+use Rattle.dg_text.specs.Written.{IsWord}
+use Rattle.dg_parse.proofs.Again.{Each, Reads, Took, bind, gives, either, at_one, at_skip, at_also, at_here, some_took, last_reads, unbarred, words_append, never, on, tok_from, behind, on_append}
 use Rattle.dg_parse.proofs.FixedWords.{fixed, sign}
-use Rattle.dg_parse.proofs.Formed.{IsFormed, IsSpelled}
+use Rattle.dg_parse.proofs.Formed.{IsSpelled}
 use Rattle.dg_parse.proofs.LiteralsAgain.{is_comma, AreNodes, AreLits, IsText, at_uids, uids_reads, at_lit, lit_reads, at_lits, lits_reads}
 use Rattle.dg_parse.proofs.NamesAgain.{IsPred, at_pred, pred_reads, at_edge, edge_reads, at_val, val_reads}
 
@@ -46,13 +41,13 @@ pub at_of : (left : Left) → Each left (of left) (λ o l. IsOf o)
 unfolding of count_of val_of pred_of
 at_of left = either (next (is_word (codes "count")) left.tokens)
     (λ e. bind _ (at_skip (is_word (codes "count")) left)
-        (λ _ l. bind _ (at_skip (is_punct open_round) l)
-        (λ _ k. bind _ (at_edge k)
-        (λ e m. bind _ (at_skip (is_punct close_round) m)
-        (λ _ n. gives _ n (λ _ h _ _. h))))))
+    (λ _ l. bind _ (at_skip (is_punct open_round) l)
+    (λ _ k. bind _ (at_edge k)
+    (λ e m. bind _ (at_skip (is_punct close_round) m)
+    (λ _ n. gives _ n (λ _ h _ _. h))))))
     (λ e. either (next (is_word (codes "val")) left.tokens)
-        (λ e. bind _ (at_val left) (λ x l. gives _ l (λ h. h)))
-        (λ e. bind _ (at_pred left) (λ p l. gives _ l (λ h. h))))
+    (λ e. bind _ (at_val left) (λ x l. gives _ l (λ h. h)))
+    (λ e. bind _ (at_pred left) (λ p l. gives _ l (λ h. h))))
 
 -- none of the words that the language keeps
 not_reserved : (p : List ℕ) (a b c d e f g h : Bool) → (a || b || c || d || e || f || g || h) ≡ false → (b ≡ false) × (c ≡ false)
@@ -150,18 +145,22 @@ arguments_reads (functions.Cmp op o ls) h = record {
   words = words_append (of_words o) (mark_word 44 ∷ commas lit_words ls) (of_reads o h.0).words (sign 44 refl, (lits_reads (takes_many op) ls h.1).words);
   again = λ f rest e.
       let g : ℕ → ℕ = behind f (of_words o) in
-      rw (on_append f (of_words o) (mark_word 44 ∷ commas lit_words ls) rest,
-          (of_reads o h.0).again f (on g (mark_word 44 ∷ commas lit_words ls) rest) refl,
-          (lits_reads (takes_many op) ls h.1).again (λ n. g (suc n)) rest e) refl;
+      rw (
+        on_append f (of_words o) (mark_word 44 ∷ commas lit_words ls) rest,
+        (of_reads o h.0).again f (on g (mark_word 44 ∷ commas lit_words ls) rest) refl,
+        (lits_reads (takes_many op) ls h.1).again (λ n. g (suc n)) rest e,
+      ) refl;
 }
 arguments_reads (functions.Between o low high) h = record {
   words = words_append (of_words o) (mark_word 44 ∷ quoted_word low ∷ mark_word 44 ∷ quoted_word high ∷ []) (of_reads o h.0).words (sign 44 refl, (h.1.word, (sign 44 refl, (h.2.word, tt))));
   again = λ f rest e.
       let g : ℕ → ℕ = behind f (of_words o) in
-      rw (on_append f (of_words o) (mark_word 44 ∷ quoted_word low ∷ mark_word 44 ∷ quoted_word high ∷ []) rest,
-          (of_reads o h.0).again f (on g (mark_word 44 ∷ quoted_word low ∷ mark_word 44 ∷ quoted_word high ∷ []) rest) refl,
-          (lit_reads low h.1).again (λ n. g (suc n)) (on (λ n. g (suc (suc n))) (mark_word 44 ∷ quoted_word high ∷ []) rest) refl,
-          (lit_reads high h.2).again (λ n. g (suc (suc (suc n)))) rest refl) refl;
+      rw (
+        on_append f (of_words o) (mark_word 44 ∷ quoted_word low ∷ mark_word 44 ∷ quoted_word high ∷ []) rest,
+        (of_reads o h.0).again f (on g (mark_word 44 ∷ quoted_word low ∷ mark_word 44 ∷ quoted_word high ∷ []) rest) refl,
+        (lit_reads low h.1).again (λ n. g (suc n)) (on (λ n. g (suc (suc n))) (mark_word 44 ∷ quoted_word high ∷ []) rest) refl,
+        (lit_reads high h.2).again (λ n. g (suc (suc (suc n)))) rest refl,
+      ) refl;
 }
 arguments_reads (functions.Has edg) h = unbarred (last_reads (functions.Has edg) (λ e l. Ok (functions.Has e, l)) (edge_reads edg h) (λ l. refl))
 arguments_reads (functions.Terms all p text) h = record {
@@ -178,9 +177,11 @@ arguments_reads (functions.UidIn edg us) h = record {
   words = words_append (edge_words edg) (mark_word 44 ∷ commas node_words us) (edge_reads edg h.0).words (sign 44 refl, (uids_reads us h.1).words);
   again = λ f rest e.
       let g : ℕ → ℕ = behind f (edge_words edg) in
-      rw (on_append f (edge_words edg) (mark_word 44 ∷ commas node_words us) rest,
-          (edge_reads edg h.0).again f (on g (mark_word 44 ∷ commas node_words us) rest) refl,
-          (uids_reads us h.1).again (λ n. g (suc n)) rest e) refl;
+      rw (
+        on_append f (edge_words edg) (mark_word 44 ∷ commas node_words us) rest,
+        (edge_reads edg h.0).again f (on g (mark_word 44 ∷ commas node_words us) rest) refl,
+        (uids_reads us h.1).again (λ n. g (suc n)) rest e,
+      ) refl;
 }
 
 -- ---- func
@@ -202,7 +203,7 @@ at_func root left =
     (λ _ m. bind _ (at_skip (is_punct open_round) m)
     (λ _ n. bind _ (at_arguments w n)
     (λ f q. bind _ (at_skip (is_punct close_round) q)
-    (λ _ r. gives f r (λ _ hf _ also took here. func_at root w f hf (also.0 (subst (λ (n : ℕ). 0 < n) (sym here) (some_took took)))))))))) 
+    (λ _ r. gives f r (λ _ hf _ also took here. func_at root w f hf (also.0 (subst (λ (n : ℕ). 0 < n) (sym here) (some_took took))))))))))
 
 cmp_fixed : (op : CmpOp) → IsWord (name_word (cmp_text op))
 cmp_fixed ops.Eq = fixed (codes "eq") refl
@@ -244,6 +245,10 @@ func_reads root fn h = record {
   words = (func_fixed fn, (sign 40 refl, words_append (inner_words fn) (mark_word 41 ∷ []) (arguments_reads fn h.good).words (sign 41 refl, tt)));
   again = λ f rest e.
       let g : ℕ → ℕ = λ n. f (suc (suc n)) in
-      rw (func_means fn (f 0), h.fits, on_append g (inner_words fn) (mark_word 41 ∷ []) rest,
-          (arguments_reads fn h.good).again g (on (behind g (inner_words fn)) (mark_word 41 ∷ []) rest) refl) refl;
+      rw (
+        func_means fn (f 0),
+        h.fits,
+        on_append g (inner_words fn) (mark_word 41 ∷ []) rest,
+        (arguments_reads fn h.good).again g (on (behind g (inner_words fn)) (mark_word 41 ∷ []) rest) refl,
+      ) refl;
 }

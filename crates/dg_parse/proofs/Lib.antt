@@ -19,3 +19,7 @@ pub mod FieldsAgain
 pub mod BlocksAgain
 pub mod TokensFormed
 pub mod TextAgain
+pub mod Nesting
+pub mod NestedParts
+pub mod NestedFilters
+pub mod NestedFields

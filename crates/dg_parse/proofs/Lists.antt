@@ -1,10 +1,10 @@
 -- What is read again and again, is printed and is read again.
 use Rattle.std.proofs.Common.{◌≡◌, ℕ, zero, suc, ◌<◌, ◌≤◌, ◌+◌, Bool, true, false, ◌||◌, List, [], ◌∷◌, ◌++◌, length, flat_map, ap, refl, sym, ◌∙◌, subst, append_assoc, append-nil, arith, length-append}
-use Rattle.std.specs.Prelude.{Result, Ok, Err, if◌then◌else◌}
+use Rattle.std.specs.Prelude.{Ok, if◌then◌else◌}
 use Rattle.std.specs.List.{AllByRecursion}
 use Rattle.std.proofs.lemmas.Bool.{false≢true}
 use Rattle.dg_text.specs.Cases.{Left, Reader, upon, repeated}
-use Rattle.dg_text.specs.Reading.{Read, and_then, turns}
+use Rattle.dg_text.specs.Reading.{and_then, turns}
 use Rattle.dg_text.specs.Tokens.{Tok}
 use Rattle.dg_text.specs.Written.{Word}
 use Rattle.dg_parse.proofs.Again.{Each, Reads, AreWords, bind, gives, weaker, either, words_append, at, on, behind, on_append}

@@ -1,10 +1,10 @@
 -- Lists of nodes and of literals are read again.
-use Rattle.std.proofs.Common.{◌≡◌, ℕ, suc, ◌<◌, Bool, true, false, ◌||◌, List, [], ◌∷◌, ◌++◌, length, flat_map, ap, refl, sym, ◌∙◌, subst, arith}
-use Rattle.std.specs.Prelude.{Option, Some, None, Ok, not, if◌then◌else◌, ◌&&◌}
+use Rattle.std.proofs.Common.{◌≡◌, ℕ, suc, ◌<◌, Bool, true, false, ◌||◌, List, [], ◌∷◌, length, ap, refl, sym, subst, arith}
+use Rattle.std.specs.Prelude.{Option, Some, None, not, if◌then◌else◌, ◌&&◌}
 use Rattle.std.specs.Option.{option_map}
-use Rattle.dg_text.specs.Cases.{Left, part, mark, also_at, also_next, here, repeated}
+use Rattle.dg_text.specs.Cases.{Left, part, repeated}
 use Rattle.dg_text.specs.Marks.{comma, open_square, close_square}
-use Rattle.dg_text.specs.Reading.{next, one_as, and_then}
+use Rattle.dg_text.specs.Reading.{next, one_as}
 use Rattle.dg_text.specs.Said.{is_wide, uid_said, uid_meant, quoted_meant}
 use Rattle.dg_text.specs.Tokens.{Tok, is_punct, is_uid, is_name}
 use Rattle.dg_parse.specs.declared.query.UidArg.{UidArg}
@@ -14,11 +14,11 @@ use Rattle.dg_parse.specs.Printed.{commas, node_words, lit_words}
 use Rattle.dg_text.specs.Quoting.{quoted_word}
 use Rattle.dg_text.specs.Spelling.{name_word, uid_word, mark_word}
 use Rattle.dg_parse.specs.Words.{node_meant, literal_meant}
-use Rattle.dg_text.specs.Written.{Word, IsWord}
-use Rattle.dg_parse.proofs.Again.{Each, Reads, Took, bind, gives, weaker, either, at_one, at_skip, at_also, at_here, some_took, one_reads, then_reads, as_reader, never, at, on}
+use Rattle.dg_text.specs.Written.{IsWord}
+use Rattle.dg_parse.proofs.Again.{Each, Reads, bind, gives, weaker, either, at_one, at_skip, at_also, at_here, some_took, one_reads, then_reads, as_reader, never}
 use Rattle.dg_parse.proofs.FixedWords.{sign}
 use Rattle.dg_parse.proofs.Formed.{IsFormed, IsSpelled}
-use Rattle.dg_parse.proofs.Lists.{Added, AddedAll, Items, Repeats, at_repeated, repeated_reads}
+use Rattle.dg_parse.proofs.Lists.{Added, Items, Repeats, at_repeated, repeated_reads}
 
 -- ---- nodes
 
@@ -35,7 +35,6 @@ node_is t u form e = by (is_uid t) (uid_said t.text) (is_name t) refl refl refl 
     by true None c b o n1 e = absurd (cc)
     by false o true b o1 n1 e = let same : nodes.Var t.text ≡ u = cc in subst IsNode same (form.name n1)
     by false o false b o1 n1 e = absurd (cc)
-
 
 at_node : (left : Left) → Each left (part (one_as node_meant) left) (λ u l. IsNode u)
 at_node left = weaker (at_one node_meant left) (λ u l k. node_is k.token u k.formed k.means)

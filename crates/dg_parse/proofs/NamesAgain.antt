@@ -1,24 +1,23 @@
 -- Names, predicates, numbers and variables are read again.
-use Rattle.std.proofs.Common.{◌≡◌, ℕ, suc, ◌<◌, Bool, true, false, List, [], ◌∷◌, ◌++◌, length, ap, refl, sym, ◌∙◌, subst}
+use Rattle.std.proofs.Common.{◌≡◌, ℕ, suc, ◌<◌, Bool, true, false, List, [], ◌∷◌, length, refl, sym, subst}
 use Rattle.dg_values.specs.Scanning.{int_of_text}
-use Rattle.std.specs.Prelude.{ℤ, pos, Option, Some, None, Ok, codes, ◌&&◌, ◌||◌, unwrap_or, is_none, is_some, if◌then◌else◌}
-use Rattle.std.specs.Str.{bytes_eq}
+use Rattle.std.specs.Prelude.{ℤ, pos, Option, Some, None, codes, ◌&&◌, unwrap_or, is_none, if◌then◌else◌}
 use Rattle.std.proofs.lemmas.Bool.{false≢true}
-use Rattle.dg_text.specs.Cases.{Left, part, mark, word, name, also_next}
+use Rattle.dg_text.specs.Cases.{Left, name, also_next}
 use Rattle.dg_text.specs.Marks.{open_round, close_round, tilde}
-use Rattle.dg_text.specs.Reading.{next, one_as, and_then}
+use Rattle.dg_text.specs.Reading.{next}
 use Rattle.dg_text.specs.Said.{is_wide, int_meant}
 use Rattle.dg_text.specs.Tokens.{Tok, is_name, is_int, is_punct, is_word}
 use Rattle.dg_text.specs.Words.{name_meant, is_reserved, is_reserved_name}
 use Rattle.dg_parse.specs.declared.query.QEdge.{QEdge}
 use Rattle.dg_parse.specs.Names.{int, pred, backwards, edge, in_round_name, val}
 use Rattle.dg_parse.specs.Printed.{edge_words, val_words, in_round}
-use Rattle.dg_text.specs.Spelling.{name_word, mark_word, int_word}
+use Rattle.dg_text.specs.Spelling.{name_word, int_word}
 use Rattle.dg_parse.specs.Words.{number_meant}
-use Rattle.dg_text.specs.Written.{Word, IsWord}
-use Rattle.dg_parse.proofs.Again.{Each, Reads, Took, bind, gives, weaker, either, at_one, at_skip, at_also, some_took, skip_reads, one_reads, passes, then_reads, last_reads, never, at, on, tok_from}
+use Rattle.dg_text.specs.Written.{IsWord}
+use Rattle.dg_parse.proofs.Again.{Each, Reads, Took, bind, gives, weaker, either, at_one, at_skip, at_also, some_took, skip_reads, one_reads, passes, then_reads, never}
 use Rattle.dg_parse.proofs.FixedWords.{fixed, sign}
-use Rattle.dg_parse.proofs.Formed.{IsFormed, IsSpelled}
+use Rattle.dg_parse.proofs.Formed.{IsSpelled}
 
 -- ---- names
 
@@ -77,8 +76,8 @@ pub at_edge : (left : Left) → Each left (edge left) (λ e l. IsPred e.pred)
 unfolding edge backwards
 at_edge left =
     bind {X = λ _ l. Unit {0}} _ (either (next (is_punct tilde) left.tokens)
-        (λ e. bind _ (at_skip (is_punct tilde) left) (λ _ l. gives true l (λ p. tt)))
-        (λ e. gives false left tt))
+    (λ e. bind _ (at_skip (is_punct tilde) left) (λ _ l. gives true l (λ p. tt)))
+    (λ e. gives false left tt))
     (λ back l. bind _ (at_pred l) (λ p k. gives _ k (λ h _. h)))
 
 edge_again : (back : Bool) (p : List ℕ) → IsPred p → Reads edge (record { back = back; pred = p }) (edge_words (record { back = back; pred = p })) never

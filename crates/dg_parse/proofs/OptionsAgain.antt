@@ -1,19 +1,18 @@
 -- The options of @recurse are read again.
-use Rattle.std.proofs.Common.{◌≡◌, ℕ, suc, ◌<◌, Bool, true, false, List, [], ◌∷◌, ◌++◌, length, flat_map, ap, refl, sym, ◌∙◌, subst, arith}
-use Rattle.std.specs.Prelude.{ℤ, Option, Some, None, Ok, if◌then◌else◌, codes}
-use Rattle.dg_text.specs.Cases.{Left, Reader, part, mark, repeated, optional}
+use Rattle.std.proofs.Common.{◌≡◌, ℕ, suc, ◌<◌, true, false, List, [], ◌∷◌, ◌++◌, flat_map, ap, refl, sym, ◌∙◌, subst, arith}
+use Rattle.std.specs.Prelude.{ℤ, codes}
+use Rattle.dg_text.specs.Cases.{Left, repeated, optional}
 use Rattle.dg_text.specs.Marks.{open_round, close_round, comma, colon}
-use Rattle.dg_text.specs.Reading.{next, one_as, and_then}
+use Rattle.dg_text.specs.Reading.{next, and_then}
 use Rattle.dg_text.specs.Tokens.{Tok, is_punct, is_word}
 use Rattle.dg_parse.specs.declared.query.QOpt.{QOpt}
 use Rattle.dg_parse.specs.declared.query.QOpt.TheVariants as options
 use Rattle.dg_parse.specs.Directives.{has_depth, has_loop, depth_option, loop_option, ropt, comma_ropt, ropts}
-use Rattle.dg_parse.specs.Names.{int}
-use Rattle.dg_parse.specs.Printed.{in_round, commas, truth_text, opt_words, opts_words}
-use Rattle.dg_text.specs.Spelling.{name_word, mark_word}
+use Rattle.dg_parse.specs.Printed.{commas, opt_words, opts_words}
+use Rattle.dg_text.specs.Spelling.{mark_word}
 use Rattle.dg_parse.specs.Words.{truth_meant}
-use Rattle.dg_text.specs.Written.{Word, IsWord}
-use Rattle.dg_parse.proofs.Again.{Each, Reads, bind, gives, weaker, either, at_one, at_skip, at_also, at_here, some_passed, unbarred, words_append, never, at, on, tok_from, behind, on_append}
+use Rattle.dg_text.specs.Written.{Word}
+use Rattle.dg_parse.proofs.Again.{Each, Reads, bind, gives, weaker, either, at_one, at_skip, at_also, at_here, some_passed, words_append, never, on, behind, on_append}
 use Rattle.dg_parse.proofs.ArgumentsAgain.{is_open}
 use Rattle.dg_parse.proofs.FixedWords.{fixed, sign}
 use Rattle.dg_parse.proofs.Lists.{Added, AddedAll, Items, Repeats, at_repeated, repeated_reads}
@@ -33,17 +32,17 @@ at_ropt : (before : List QOpt) (left : Left) → Each left (ropt before left) (�
 unfolding ropt depth_option loop_option
 at_ropt before left = either (next (is_word (codes "depth")) left.tokens)
     (λ e. bind _ (at_here left)
-        (λ place l. bind _ (at_skip (is_word (codes "depth")) l)
-        (λ _ k. bind _ (at_also place (has_depth before) k)
-        (λ _ m. bind _ (at_skip (is_punct colon) m)
-        (λ _ n. bind _ (at_int n)
-        (λ z q. gives _ q (λ h _ also word here. record { item = options.Depth z; is = refl; good = record { number = h; first = also.0 (subst (λ (n : ℕ). 0 < n) (sym here) (some_passed word)) } })))))))
+    (λ place l. bind _ (at_skip (is_word (codes "depth")) l)
+    (λ _ k. bind _ (at_also place (has_depth before) k)
+    (λ _ m. bind _ (at_skip (is_punct colon) m)
+    (λ _ n. bind _ (at_int n)
+    (λ z q. gives _ q (λ h _ also word here. record { item = options.Depth z; is = refl; good = record { number = h; first = also.0 (subst (λ (n : ℕ). 0 < n) (sym here) (some_passed word)) } })))))))
     (λ e. bind _ (at_here left)
-        (λ place l. bind _ (at_skip (is_word (codes "loop")) l)
-        (λ _ k. bind _ (at_also place (has_loop before) k)
-        (λ _ m. bind _ (at_skip (is_punct colon) m)
-        (λ _ n. bind _ (at_one truth_meant n)
-        (λ b q. gives _ q (λ h _ also word here. record { item = options.Again b; is = refl; good = also.0 (subst (λ (n : ℕ). 0 < n) (sym here) (some_passed word)) })))))))
+    (λ place l. bind _ (at_skip (is_word (codes "loop")) l)
+    (λ _ k. bind _ (at_also place (has_loop before) k)
+    (λ _ m. bind _ (at_skip (is_punct colon) m)
+    (λ _ n. bind _ (at_one truth_meant n)
+    (λ b q. gives _ q (λ h _ also word here. record { item = options.Again b; is = refl; good = also.0 (subst (λ (n : ℕ). 0 < n) (sym here) (some_passed word)) })))))))
 
 ropt_reads : (before : List QOpt) (o : QOpt) → IsOpt before o → Reads (ropt before) (before ++ o ∷ []) (opt_words o) never
 unfolding ropt depth_option loop_option
@@ -103,7 +102,7 @@ some_opts_read : (a : QOpt) (more : List QOpt) → AreOpts (a ∷ more) → Read
 some_opts_read a more h =
     let words : List Word = flat_map (λ a. mark_word comma ∷ opt_words a) more in
     let rest : Reads (repeated (next (is_punct comma)) comma_ropt (a ∷ [])) (a ∷ more) words is_comma =
-        repeated_reads (next (is_punct comma)) comma_ropt IsOpt (λ a. mark_word comma ∷ opt_words a) never ropts_repeat (a ∷ []) more h.1 in
+    repeated_reads (next (is_punct comma)) comma_ropt IsOpt (λ a. mark_word comma ∷ opt_words a) never ropts_repeat (a ∷ []) more h.1 in
     record {
       words = words_append (opt_words a) words (ropt_reads [] a h.0).words rest.words;
       again = λ f left e.
@@ -116,7 +115,7 @@ opts_read [] h = record { words = tt; again = λ f rest e. rw e refl }
 opts_read (a ∷ more) h =
     let words : List Word = flat_map (λ a. mark_word comma ∷ opt_words a) more in
     let all : Reads (repeated (next (is_punct comma)) comma_ropt (a ∷ [])) (a ∷ more) words is_comma =
-        repeated_reads (next (is_punct comma)) comma_ropt IsOpt (λ a. mark_word comma ∷ opt_words a) never ropts_repeat (a ∷ []) more h.1 in
+    repeated_reads (next (is_punct comma)) comma_ropt IsOpt (λ a. mark_word comma ∷ opt_words a) never ropts_repeat (a ∷ []) more h.1 in
     let inner : List Word = commas opt_words (a ∷ more) in
     record {
       words = (sign 40 refl, words_append inner (mark_word 41 ∷ []) (some_opts_read a more h).words (sign 41 refl, tt));

@@ -1,28 +1,26 @@
 -- The text of a printed query is read again.
-use Rattle.std.proofs.Common.{arith, ◌≡◌, ℕ, ◌==◌, Bool, true, false, List, [], ◌∷◌, length, map, ap, refl, sym, ◌∙◌, subst}
+use Rattle.std.proofs.Common.{arith, ◌≡◌, ℕ, ◌+◌, ◌==◌, Bool, true, false, List, [], length, ap, refl, ◌∙◌, subst}
 use Rattle.std.specs.Prelude.{Option, Some, None, Result, Ok, Err, ◌&&◌, if◌then◌else◌, max}
-use Rattle.std.proofs.lemmas.Bool.{false≢true}
 use Rattle.std.proofs.lemmas.Bool.Decides.{nat_tests}
-use Rattle.dg_text.specs.Brackets.{too_deep}
+use Rattle.dg_text.specs.Brackets.{too_deep, deep_from}
 use Rattle.dg_text.specs.Cases.{Left, Reader, ended}
 use Rattle.dg_text.specs.Lexing.{lexed}
-use Rattle.dg_text.specs.Places.{offset_of}
 use Rattle.dg_text.specs.Reading.{Read}
 use Rattle.dg_text.specs.Tokens.{Tok, toks_of}
-use Rattle.dg_text.specs.Written.{Word, written, word_said, tok_said}
+use Rattle.dg_text.specs.Written.{Word, written}
 use Rattle.dg_text.specs.declared.token.Token.{Token}
 use Rattle.dg_text.proofs.WrittenWords.{words_read}
 use Rattle.dg_parse.specs.declared.fault.DqlFault.{DqlFault}
-use Rattle.dg_parse.specs.declared.fault.DqlFault.TheVariants as faults
-use Rattle.dg_parse.specs.declared.query.Query.{Query}
 use Rattle.dg_parse.specs.Grammar.{query}
-use Rattle.dg_parse.specs.Laws.{deep_in, ShallowReadsBack}
-use Rattle.dg_parse.specs.PrintedQuery.{query_words, query_text}
-use Rattle.dg_parse.specs.Whole.{outcome, shallow, said, by_tokens, query_of}
+use Rattle.dg_parse.specs.Laws.{QueryReadsBack}
+use Rattle.dg_parse.specs.PrintedQuery.{query_words}
+use Rattle.dg_parse.specs.Whole.{outcome, shallow, by_tokens}
 use Rattle.dg_parse.proofs.Again.{Each, Reads, never, at, on}
 use Rattle.dg_parse.proofs.BlocksAgain.{AreBlocks, at_query, query_reads}
 use Rattle.dg_parse.proofs.Formed.{AreFormed}
-use Rattle.dg_parse.proofs.TokensFormed.{tokens_formed, Says, says}
+use Rattle.dg_parse.proofs.NestedFields as nested
+use Rattle.dg_parse.proofs.Nesting.{Low, Open, Kept, low_means}
+use Rattle.dg_parse.proofs.TokensFormed.{tokens_formed, says}
 
 -- ---- what a whole text says was read
 
@@ -96,10 +94,27 @@ read_again {A = A} reader x ws r p low =
     ∙ ap (shallow reader toks (length (written ws))) low
     ∙ ap (λ (q : Read Left A). outcome toks (length (written ws)) (ended q)) read
 
-pub shallow_back : ShallowReadsBack
-shallow_back text q e low =
+-- ---- no bracket of the printed text is too deep
+
+-- what was read, with what it opens
+pub opens_low : {A : Type 0} (reader : Reader A) (words_of : A → List Word) → ((left : Left) → Kept 0 0 left (reader left) (λ x. Low 0 (words_of x))) → (text : List ℕ) (x : A) → WasRead reader text x → Low 0 (words_of x)
+opens_low reader words_of each text x w =
+    let toks : List Tok = toks_of text w.tokens in
+    let start : Open 0 toks = record { opened = 0; closed = 0; level = refl; few = w.shallow } in
+    let e = subst (λ r. Kept 0 0 (at toks) r (λ x. Low 0 (words_of x))) w.read (each (at toks)) in
+    (e.it start).1
+
+nothing_deep : (c : ℕ) → deep_from 32 (c + 0) c [] ≡ None
+unfolding deep_from
+nothing_deep c = refl
+
+pub printed_low : (ws : List Word) → Low 0 ws → (p : Printed ws) → too_deep 32 (toks_of (written ws) p.tokens) ≡ None
+printed_low ws l p = ap (λ ts. too_deep 32 ts) p.on_them ∙ low_means 0 ws l (omega arith) p.places [] nothing_deep 0
+
+pub query_back : QueryReadsBack
+query_back text q e =
     let w = was_read query text q e in
     let blocks : AreBlocks q.blocks = of_read query (λ q l. AreBlocks q.blocks) at_query text q w in
     let r : Reads query q (query_words q) never = query_reads q blocks in
     let p : Printed (query_words q) = printed r in
-    read_again query q (query_words q) r p (sym (ap (deep_in (query_text q)) p.are) ∙ low)
+    read_again query q (query_words q) r p (printed_low (query_words q) (opens_low query query_words nested.at_query text q w) p)

@@ -1,7 +1,7 @@
 -- The tokens of a text can be written again, and words that are written are read as tokens.
-use Rattle.std.proofs.Common.{◌≡◌, ℕ, zero, suc, Bool, true, false, List, [], ◌∷◌, ◌++◌, length, map, ap, refl, sym, ◌∙◌, subst}
-use Rattle.std.specs.Prelude.{ℤ, Option, Some, None, Ok, IsTrue, if◌then◌else◌}
-use Rattle.std.specs.List.{AllByRecursion, slice_range}
+use Rattle.std.proofs.Common.{◌≡◌, ℕ, zero, suc, Bool, true, false, List, [], ◌∷◌, map, refl}
+use Rattle.std.specs.Prelude.{ℤ, Option, Some, None, Ok, if◌then◌else◌}
+use Rattle.std.specs.List.{slice_range}
 use Rattle.std.proofs.lemmas.Bool.{false≢true}
 use Rattle.dg_text.specs.Lexing.{lexed}
 use Rattle.dg_text.specs.Patterns.{regex_meant}
@@ -9,7 +9,7 @@ use Rattle.dg_text.specs.Quoting.{quoted_word}
 use Rattle.dg_text.specs.Said.{quoted_meant, int_meant, uid_meant, uid_said}
 use Rattle.dg_text.specs.Spelling.{uid_word, name_word, int_word, regex_word}
 use Rattle.dg_text.specs.Tokens.{Tok, is_name, is_uid, tok_of, toks_of}
-use Rattle.dg_text.specs.Written.{Word, IsWord, written, word_said, tok_said}
+use Rattle.dg_text.specs.Written.{Word, IsWord, word_said, tok_said}
 use Rattle.dg_text.specs.declared.token.Token.{Token}
 use Rattle.dg_text.specs.declared.token.TokenKind.{TokenKind}
 use Rattle.dg_text.specs.declared.token.TokenKind.TheVariants as kinds
@@ -18,7 +18,7 @@ use Rattle.dg_text.proofs.NumberSpelling.{numbers_read_back, numbers_are_bounded
 use Rattle.dg_text.proofs.PatternSpelling.{patterns_read_back}
 use Rattle.dg_text.proofs.Quotes.{quotes_are_words, quotes_mean_texts}
 use Rattle.dg_nquad.proofs.TokensSay.{all_tokens}
-use Rattle.dg_parse.proofs.Again.{at, on, tok_from}
+use Rattle.dg_parse.proofs.Again.{on, tok_from}
 use Rattle.dg_parse.proofs.Formed.{IsSpelled, IsFormed, AreFormed}
 
 number_spelled : (t : Tok) (z : ℤ) → int_meant t ≡ Some z → IsSpelled int_meant (int_word z) z
@@ -62,8 +62,8 @@ token_formed text t w = by t.kind w
     by kinds.Regex w =
         formed (tok_of text (record t { kind = kinds.Regex })) no_name
         (λ r e.
-            let b = patterns_read_back (tok_of text (record t { kind = kinds.Regex })) r.0 r.1 refl w.form e in
-            record { word = b.word; reads = λ start. b.back (record { kind = kinds.Regex; text = (regex_word r.0 r.1).1; start = start }) refl })
+        let b = patterns_read_back (tok_of text (record t { kind = kinds.Regex })) r.0 r.1 refl w.form e in
+        record { word = b.word; reads = λ start. b.back (record { kind = kinds.Regex; text = (regex_word r.0 r.1).1; start = start }) refl })
     by kinds.Caret w = formed (tok_of text (record t { kind = kinds.Caret })) no_name no_regex
     by (kinds.Punct b) w = formed (tok_of text (record t { kind = kinds.Punct b })) no_name no_regex
 

@@ -1,5 +1,5 @@
 -- Functions, filters, arguments and directives, written as words: the form that a printed query has.
-use Rattle.std.specs.Prelude.{ℕ, zero, suc, ℤ, Bool, true, false, List, [], ◌∷◌, ◌++◌, flat_map, map, replicate, codes, if◌then◌else◌}
+use Rattle.std.specs.Prelude.{ℕ, zero, suc, Bool, true, false, List, [], ◌∷◌, ◌++◌, flat_map, replicate, codes, if◌then◌else◌}
 use Rattle.dg_text.specs.Marks.{open_round, close_round, comma, colon, tilde}
 use Rattle.dg_parse.specs.declared.query.CmpOp.{CmpOp}
 use Rattle.dg_parse.specs.declared.query.CmpOp.TheVariants as ops

@@ -1,6 +1,6 @@
 -- Fields, blocks and queries, written as words.
 use Rattle.std.specs.Prelude.{ℕ, List, [], ◌∷◌, ◌++◌, flat_map, Option, Some, None, codes}
-use Rattle.dg_text.specs.Marks.{open_round, close_round, open_curly, close_curly, comma, colon}
+use Rattle.dg_text.specs.Marks.{open_curly, close_curly, comma, colon}
 use Rattle.dg_parse.specs.declared.query.QBlock.{QBlock}
 use Rattle.dg_parse.specs.declared.query.QField.{QField}
 use Rattle.dg_parse.specs.declared.query.QItem.TheOpen.{QField-F, QItem-F}
@@ -9,7 +9,7 @@ use Rattle.dg_parse.specs.declared.query.QArg.{QArg}
 use Rattle.dg_parse.specs.declared.query.QFunc.{QFunc}
 use Rattle.dg_parse.specs.declared.query.Query.{Query}
 use Rattle.dg_parse.specs.Keys.{aggregate_word}
-use Rattle.dg_parse.specs.Printed.{in_round, commas, edge_words, val_words, func_words, arg_words, args_words, dir_words}
+use Rattle.dg_parse.specs.Printed.{in_round, edge_words, val_words, func_words, arg_words, args_words, dir_words}
 use Rattle.dg_text.specs.Spelling.{name_word, mark_word}
 use Rattle.dg_text.specs.Written.{Word, written}
 

@@ -1,7 +1,7 @@
 // Laws of the printed form.
-ghost use Rattle.dg_parse.specs.Laws.{ShallowReadsBack};
+ghost use Rattle.dg_parse.specs.Laws.{QueryReadsBack};
 
-/// The printed form of the query of a text says the same query, where its brackets aren't too deep.
+/// The printed text of the query that a text says says the same query.
 pub fn queries_read_back()
-    ensures { ShallowReadsBack }
+    ensures { QueryReadsBack }
 {}
