@@ -18,6 +18,7 @@ mod fronts;
 mod functions;
 mod items;
 mod keys;
+mod laws;
 mod listed;
 mod literals;
 mod names;
