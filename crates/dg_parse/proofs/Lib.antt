@@ -23,3 +23,5 @@ pub mod Nesting
 pub mod NestedParts
 pub mod NestedFilters
 pub mod NestedFields
+pub mod ConditionWords
+pub mod ConditionsAgain

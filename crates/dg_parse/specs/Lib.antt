@@ -17,3 +17,4 @@ pub mod Whole
 pub mod Printed
 pub mod PrintedQuery
 pub mod Laws
+pub mod PrintedUpsert
