@@ -25,3 +25,4 @@ pub mod NestedFilters
 pub mod NestedFields
 pub mod ConditionWords
 pub mod ConditionsAgain
+pub mod UpsertAgain
