@@ -26,3 +26,6 @@ pub mod NestedFields
 pub mod ConditionWords
 pub mod ConditionsAgain
 pub mod UpsertAgain
+pub mod NestedConditions
+pub mod NestedGroups
+pub mod NestedUpsert

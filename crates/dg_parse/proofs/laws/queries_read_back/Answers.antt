@@ -1,4 +1,3 @@
-use Rattle.dg_parse.proofs.UpsertAgain.{upsert_reads}
 use Rattle.dg_parse.proofs.TextAgain.{query_back}
 use Rattle.dg_parse.proofs.laws.queries_read_back.Goals as goal
 
