@@ -29,3 +29,9 @@ pub mod Nesting
 pub mod NestedParts
 pub mod NestedFilters
 pub mod NestedFields
+pub mod ConditionWords
+pub mod ConditionsAgain
+pub mod UpsertAgain
+pub mod NestedConditions
+pub mod NestedGroups
+pub mod NestedUpsert

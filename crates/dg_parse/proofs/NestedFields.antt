@@ -43,7 +43,7 @@ use Rattle.dg_parse.proofs.Nesting.{Low, Nothing, Flat, low_append, low_round, K
 low_at : (n : ℕ) (text : List ℕ) (ws : List Word) → Low n ws → Low n (at_word text ∷ ws)
 low_at n text ws l = Flat n (at_word text) ws (λ start. (refl, refl)) l
 
-low_curly : (n : ℕ) (ws : List Word) → suc n ≤ 32 → Low (suc n) ws → Low n (mark_word open_curly ∷ (ws ++ mark_word close_curly ∷ []))
+pub low_curly : (n : ℕ) (ws : List Word) → suc n ≤ 32 → Low (suc n) ws → Low n (mark_word open_curly ∷ (ws ++ mark_word close_curly ∷ []))
 low_curly n ws le l = low_round n open_curly close_curly ws le (λ start. (refl, refl)) (λ start. (refl, refl)) l
 
 -- the directives so far open no more
@@ -286,12 +286,17 @@ at_block {n} before left =
           (low_append n (flat_map dir_words m.dirs) _ hd (low_curly n (flat_map field_words fs) le hf))));
     }))))))
 
-pub at_query : {n : ℕ} (left : Left) → Kept n n left (query left) (λ q. Low n (query_words q))
-unfolding query braced_blocks
-at_query {n} left =
-    bind {X = Any} _ (either (next (is_word (codes "query")) left.tokens) (λ e. at_skip (is_word (codes "query")) left (λ b t s. refl)) (λ e. gives tt left tt))
-    (λ _ l. bind _ (at_open open_curly l (λ t s. (refl, refl)))
+pub at_braced_blocks : {n : ℕ} (left : Left) → Kept n n left (braced_blocks left) (λ q. Low n (query_words q))
+unfolding braced_blocks
+at_braced_blocks {n} left =
+    bind _ (at_open open_curly left (λ t s. (refl, refl)))
     (λ _ k. bind _ (at_repeated (next is_name) block (λ b. Low (suc n) (block_words b)) at_block [] k)
     (λ all m. bind _ (at_close close_curly m (λ t s. (refl, refl)))
-    (λ _ p. gives (record { blocks = all }) p (λ _ a le _. low_curly n (flat_map block_words all) le
-    (low_flat_map (suc n) block_words all (subst (λ (l : List QBlock). AllByRecursion (λ b. Low (suc n) (block_words b)) l) (sym a.is) (all_of (λ b. Low (suc n) (block_words b)) [] a.items a.good))))))))
+    (λ _ p. gives (record { blocks = all }) p (λ _ a le. low_curly n (flat_map block_words all) le
+        (low_flat_map (suc n) block_words all (subst (λ (l : List QBlock). AllByRecursion (λ b. Low (suc n) (block_words b)) l) (sym a.is) (all_of (λ b. Low (suc n) (block_words b)) [] a.items a.good)))))))
+
+pub at_query : {n : ℕ} (left : Left) → Kept n n left (query left) (λ q. Low n (query_words q))
+unfolding query
+at_query {n} left =
+    bind {X = Any} _ (either (next (is_word (codes "query")) left.tokens) (λ e. at_skip (is_word (codes "query")) left (λ b t s. refl)) (λ e. gives tt left tt))
+    (λ _ l. weaker (at_braced_blocks l) (λ q h _. h))

@@ -239,6 +239,15 @@ punct_is b P t h e = by t.kind e
 pub at_sign : {n : ℕ} (b : ℕ) (left : Left) → ((text : List ℕ) (start : ℕ) → IsFlatTok (record { kind = kinds.Punct b; text = text; start = start })) → Kept n n left (mark b left) Any
 at_sign {n} b left flat = skip_keeps (is_punct b) Any left (λ t rest e o. (flat_passed n t rest (punct_is b (λ u. IsFlatTok u) t flat e) o, tt))
 
+-- a sign that is no bracket, which tells that not too many stand open
+pub at_level : {n : ℕ} (b : ℕ) (left : Left) → ((text : List ℕ) (start : ℕ) → IsFlatTok (record { kind = kinds.Punct b; text = text; start = start })) → Kept n n left (mark b left) (λ _. n ≤ 32)
+at_level {n} b left flat = skip_keeps (is_punct b) (λ _. n ≤ 32) left (λ t rest e o. (flat_passed n t rest (punct_is b (λ u. IsFlatTok u) t flat e) o, low t rest (punct_is b (λ u. IsFlatTok u) t flat e) o))
+  where
+    low : (t : Tok) (rest : List Tok) → IsFlatTok t → Open n (t ∷ rest) → n ≤ 32
+    low t rest f o =
+        let b2 : Behind o.opened o.closed rest = back o.opened o.closed o.opened o.closed t rest (count_same (opens t) o.opened f.0) (count_same (closes t) o.closed f.1) o.few in
+        omega (arith, o.level, b2.few)
+
 -- an opening bracket
 pub at_open : {n : ℕ} (b : ℕ) (left : Left) → ((text : List ℕ) (start : ℕ) → (opens (record { kind = kinds.Punct b; text = text; start = start }) ≡ true) × (closes (record { kind = kinds.Punct b; text = text; start = start }) ≡ false))
     → Kept n (suc n) left (mark b left) (λ _. suc n ≤ 32)

@@ -8,7 +8,7 @@ use Rattle.dg_text.specs.Patterns.{regex_meant}
 use Rattle.dg_text.specs.Quoting.{quoted_word}
 use Rattle.dg_text.specs.Said.{quoted_meant, int_meant, uid_meant, uid_said}
 use Rattle.dg_text.specs.Spelling.{uid_word, name_word, int_word, regex_word}
-use Rattle.dg_text.specs.Tokens.{Tok, is_name, is_uid, tok_of, toks_of}
+use Rattle.dg_text.specs.Tokens.{Tok, is_name, is_blank, is_uid, tok_of, toks_of}
 use Rattle.dg_text.specs.Written.{Word, IsWord, word_said, tok_said}
 use Rattle.dg_text.specs.declared.token.Token.{Token}
 use Rattle.dg_text.specs.declared.token.TokenKind.{TokenKind}
@@ -39,8 +39,8 @@ node_spelled t n e =
 text_spelled : (x : List ℕ) → IsSpelled quoted_meant (quoted_word x) x
 text_spelled x = record { word = quotes_are_words x; reads = λ start. quotes_mean_texts x (record { kind = kinds.Quoted; text = (quoted_word x).1; start = start }) refl }
 
-formed : (t : Tok) → (is_name t ≡ true → IsWord (name_word t.text)) → ((r : List ℕ × Bool) → regex_meant t ≡ Some r → IsSpelled regex_meant (regex_word r.0 r.1) r) → IsFormed t
-formed t name pattern = record { name = name; number = number_spelled t; node = node_spelled t; pattern = pattern; text = text_spelled }
+formed : (t : Tok) → (is_name t ≡ true → IsWord (name_word t.text)) → (is_blank t ≡ true → IsWord (kinds.Blank, t.text)) → ((r : List ℕ × Bool) → regex_meant t ≡ Some r → IsSpelled regex_meant (regex_word r.0 r.1) r) → IsFormed t
+formed t name blank pattern = record { blank = blank; name = name; number = number_spelled t; node = node_spelled t; pattern = pattern; text = text_spelled }
 
 token_formed : (text : List ℕ) (t : Token) → IsWord (t.kind, slice_range text t.start t.end) → IsFormed (tok_of text t)
 token_formed text t w = by t.kind w
@@ -52,20 +52,20 @@ token_formed text t w = by t.kind w
     no_regex r e = absurd (cc)
 
     by : (kind : TokenKind) → IsWord (kind, slice_range text t.start t.end) → IsFormed (tok_of text (record t { kind = kind }))
-    by kinds.Name w = formed (tok_of text (record t { kind = kinds.Name })) (λ h. w) no_regex
-    by kinds.Int w = formed (tok_of text (record t { kind = kinds.Int })) no_name no_regex
-    by kinds.Uid w = formed (tok_of text (record t { kind = kinds.Uid })) no_name no_regex
-    by kinds.Quoted w = formed (tok_of text (record t { kind = kinds.Quoted })) no_name no_regex
-    by kinds.Iri w = formed (tok_of text (record t { kind = kinds.Iri })) no_name no_regex
-    by kinds.Blank w = formed (tok_of text (record t { kind = kinds.Blank })) no_name no_regex
-    by kinds.At w = formed (tok_of text (record t { kind = kinds.At })) no_name no_regex
+    by kinds.Name w = formed (tok_of text (record t { kind = kinds.Name })) (λ h. w) no_name no_regex
+    by kinds.Int w = formed (tok_of text (record t { kind = kinds.Int })) no_name no_name no_regex
+    by kinds.Uid w = formed (tok_of text (record t { kind = kinds.Uid })) no_name no_name no_regex
+    by kinds.Quoted w = formed (tok_of text (record t { kind = kinds.Quoted })) no_name no_name no_regex
+    by kinds.Iri w = formed (tok_of text (record t { kind = kinds.Iri })) no_name no_name no_regex
+    by kinds.Blank w = formed (tok_of text (record t { kind = kinds.Blank })) no_name (λ h. w) no_regex
+    by kinds.At w = formed (tok_of text (record t { kind = kinds.At })) no_name no_name no_regex
     by kinds.Regex w =
-        formed (tok_of text (record t { kind = kinds.Regex })) no_name
+        formed (tok_of text (record t { kind = kinds.Regex })) no_name no_name
         (λ r e.
         let b = patterns_read_back (tok_of text (record t { kind = kinds.Regex })) r.0 r.1 refl w.form e in
         record { word = b.word; reads = λ start. b.back (record { kind = kinds.Regex; text = (regex_word r.0 r.1).1; start = start }) refl })
-    by kinds.Caret w = formed (tok_of text (record t { kind = kinds.Caret })) no_name no_regex
-    by (kinds.Punct b) w = formed (tok_of text (record t { kind = kinds.Punct b })) no_name no_regex
+    by kinds.Caret w = formed (tok_of text (record t { kind = kinds.Caret })) no_name no_name no_regex
+    by (kinds.Punct b) w = formed (tok_of text (record t { kind = kinds.Punct b })) no_name no_name no_regex
 
 -- the tokens of a text
 pub tokens_formed : (text : List ℕ) (tokens : List Token) → lexed text ≡ Ok tokens → AreFormed (toks_of text tokens)

@@ -18,3 +18,4 @@ pub mod Depth
 pub mod Printed
 pub mod PrintedQuery
 pub mod Laws
+pub mod PrintedUpsert
