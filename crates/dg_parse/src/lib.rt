@@ -32,6 +32,7 @@ mod words;
 
 pub use depth::depth_is_never_met;
 pub use fault::DqlFault;
+pub use laws::{queries_read_back, upserts_read_back};
 pub use query::{
     AggOp, CmpOp, QArg, QBlock, QDir, QEdge, QField, QFilter, QFunc, QItem, QOf, QOpt, QOrder,
     QPart, Query, UidArg,
