@@ -1,5 +1,5 @@
 -- Conditions as words, and which conditions are read with brackets at most so deep.
-use Rattle.std.proofs.Common.{◌≡◌, ℕ, zero, suc, false, List, [], ◌∷◌, ◌++◌, map, flat_map, ap, refl, sym, ◌∙◌, subst}
+use Rattle.std.proofs.Common.{◌≡◌, ℕ, zero, suc, List, [], ◌∷◌, ◌++◌, map, flat_map, ap, refl, sym, ◌∙◌, subst}
 use Rattle.std.specs.Prelude.{ℤ, codes}
 use Rattle.std.specs.List.{AllByRecursion}
 use Rattle.dg_parse.specs.declared.upsert.UCond.{UCond}

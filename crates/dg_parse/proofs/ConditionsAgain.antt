@@ -1,5 +1,5 @@
 -- Conditions are read again.
-use Rattle.std.proofs.Common.{◌≡◌, ℕ, zero, suc, ◌≤◌, ◌+◌, Bool, true, false, ◌||◌, List, [], ◌∷◌, ◌++◌, length, flat_map, ap, refl, sym, ◌∙◌, subst, arith}
+use Rattle.std.proofs.Common.{◌≡◌, ℕ, zero, suc, ◌≤◌, ◌+◌, Bool, false, ◌||◌, List, [], ◌∷◌, ◌++◌, length, flat_map, ap, refl, sym, ◌∙◌, subst, arith}
 use Rattle.std.specs.Prelude.{ℤ, Some, Ok, codes}
 use Rattle.std.specs.List.{AllByRecursion}
 use Rattle.dg_text.specs.Cases.{Left, upon, repeated}
@@ -213,8 +213,11 @@ module _ (depth : ℕ) (ih : (f : UCond) → IsCond depth f → Reads (condition
         let g : ℕ → ℕ = λ n. f (suc (suc (suc n))) in
         let g2 : ℕ → ℕ = λ n. g (suc (suc (suc n))) in
         let g3 : ℕ → ℕ = λ n. g2 (suc n) in
-        rw (cmp_means op (f 0), (round_name_reads x h.word).again g (on g2 (mark_word comma ∷ int_word m ∷ mark_word close_round ∷ []) rest) refl,
-            (int_reads m h.number).again g3 (tok_from (g3 1) (mark_word close_round) ∷ rest) refl) refl;
+        rw (
+          cmp_means op (f 0),
+          (round_name_reads x h.word).again g (on g2 (mark_word comma ∷ int_word m ∷ mark_word close_round ∷ []) rest) refl,
+          (int_reads m h.number).again g3 (tok_from (g3 1) (mark_word close_round) ∷ rest) refl,
+        ) refl;
   }
 
   nots_reads : (n : ℕ) (p : UPart) (ws : List Word) → ((f : ℕ → ℕ) (rest : List Tok) → begins_not (on f ws rest) ≡ false) → Reads (atom (condition depth)) (plainly p) ws never

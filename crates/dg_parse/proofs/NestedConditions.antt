@@ -1,5 +1,5 @@
 -- What is printed of conditions opens no more brackets than what was read.
-use Rattle.std.proofs.Common.{◌≡◌, ℕ, zero, suc, ◌≤◌, Bool, false, List, [], ◌∷◌, ◌++◌, length, refl, sym, ◌∙◌, subst}
+use Rattle.std.proofs.Common.{◌≡◌, ℕ, zero, suc, ◌≤◌, Bool, List, [], ◌∷◌, ◌++◌, length, refl, sym, ◌∙◌, subst}
 use Rattle.std.specs.Prelude.{ℤ, codes}
 use Rattle.std.specs.List.{AllByRecursion}
 use Rattle.dg_text.specs.Cases.{Left}
@@ -17,7 +17,7 @@ use Rattle.dg_parse.specs.declared.upsert.UPart.TheViews.{out-UPart}
 use Rattle.dg_parse.specs.Filters.{one_not}
 use Rattle.dg_parse.specs.Conditions.{plainly, negated, len_alone, bracketed, atom, not_of, and_more, and_rest, and_of, or_more, or_rest, or_of, condition}
 use Rattle.dg_parse.specs.Words.{comparison_meant}
-use Rattle.dg_parse.specs.Printed.{Shown, shown_alone, shown_or, shown_and, barely, nots, in_round, cmp_text}
+use Rattle.dg_parse.specs.Printed.{Shown, shown_or, shown_and, barely, nots, in_round, cmp_text}
 use Rattle.dg_parse.specs.PrintedUpsert.{shown, len_words, cond_words}
 use Rattle.dg_parse.proofs.ConditionWords.{Layer, shown_of, shown_is, or_words, and_words, shown_as_or, shown_as_and, shown_as_len}
 use Rattle.dg_parse.proofs.Lists.{Added, all_of}

@@ -293,7 +293,7 @@ at_braced_blocks {n} left =
     (λ _ k. bind _ (at_repeated (next is_name) block (λ b. Low (suc n) (block_words b)) at_block [] k)
     (λ all m. bind _ (at_close close_curly m (λ t s. (refl, refl)))
     (λ _ p. gives (record { blocks = all }) p (λ _ a le. low_curly n (flat_map block_words all) le
-        (low_flat_map (suc n) block_words all (subst (λ (l : List QBlock). AllByRecursion (λ b. Low (suc n) (block_words b)) l) (sym a.is) (all_of (λ b. Low (suc n) (block_words b)) [] a.items a.good)))))))
+    (low_flat_map (suc n) block_words all (subst (λ (l : List QBlock). AllByRecursion (λ b. Low (suc n) (block_words b)) l) (sym a.is) (all_of (λ b. Low (suc n) (block_words b)) [] a.items a.good)))))))
 
 pub at_query : {n : ℕ} (left : Left) → Kept n n left (query left) (λ q. Low n (query_words q))
 unfolding query

@@ -1,8 +1,8 @@
 -- What is printed of statements in groups opens no more brackets than what was read.
-use Rattle.std.proofs.Common.{◌≡◌, ℕ, zero, suc, ◌≤◌, Bool, true, false, ◌&&◌, List, [], ◌∷◌, ◌++◌, length, flat_map, ap, refl, sym, ◌∙◌, subst, append-nil}
+use Rattle.std.proofs.Common.{◌≡◌, ℕ, zero, suc, ◌≤◌, Bool, true, false, ◌&&◌, List, [], ◌∷◌, ◌++◌, length, flat_map, refl, sym, subst, append-nil}
 use Rattle.std.specs.Prelude.{IfOk, Option, Some, None, Ok, Err, not, codes, if◌then◌else◌}
 use Rattle.std.specs.List.{AllByRecursion}
-use Rattle.dg_text.specs.Cases.{Left, Reader, met, part, repeated}
+use Rattle.dg_text.specs.Cases.{Left, met, part}
 use Rattle.dg_text.specs.Marks as marks
 use Rattle.dg_text.specs.Quoting.{quoted_word}
 use Rattle.dg_text.specs.Reading as plain
@@ -18,15 +18,14 @@ use Rattle.dg_values.specs.declared.kind.Kind.{Kind}
 use Rattle.dg_nquad.specs.declared.block.Block.{Block}
 use Rattle.dg_nquad.specs.declared.mutation.Node.{Node}
 use Rattle.dg_nquad.specs.declared.mutation.Node.TheVariants as nodes
-use Rattle.dg_nquad.specs.declared.mutation.Object.{Object}
 use Rattle.dg_nquad.specs.declared.mutation.Object.TheVariants as objects
 use Rattle.dg_nquad.specs.declared.mutation.Statement.{Statement}
-use Rattle.dg_nquad.specs.Grammar.{variable, uid_variable, node, type_tag, literal, val_variable, all_objects, node_object, object, statement, statements, group, groups, begins_statement, begins_group, is_label}
-use Rattle.dg_nquad.specs.Texts.{variable_words, node_words, tag_words, object_words, statement_words, statements_words, group_name, group_words, alone_words, groups_words, type_of_kind}
+use Rattle.dg_nquad.specs.Grammar.{variable, uid_variable, node, type_tag, literal, val_variable, all_objects, node_object, object, statement, group, groups, begins_statement, begins_group, is_label}
+use Rattle.dg_nquad.specs.Texts.{variable_words, node_words, tag_words, object_words, statement_words, group_name, alone_words, groups_words, type_of_kind}
 use Rattle.dg_nquad.specs.Words.{node_meant, kind_meant, group_meant}
 use Rattle.dg_parse.proofs.NestedParts.{low_name, low_brackets, low_flat_map}
 use Rattle.dg_parse.proofs.NestedFields.{low_curly}
-use Rattle.dg_parse.proofs.Nesting.{IsFlat, Low, Nothing, Flat, low_append, Open, Kept, bind, gives, weaker, either, Any, NotPunct, at_skip, at_one, at_sign, at_level, at_open, at_close}
+use Rattle.dg_parse.proofs.Nesting.{IsFlat, Low, Nothing, Flat, low_append, Open, Kept, Any, NotPunct, at_skip, at_one, at_sign, at_level, at_open, at_close}
 
 -- ---- readers of tokens alone
 
@@ -140,15 +139,15 @@ at_object : {n : ℕ} (block : Block) (l : List Tok) → Plain n n l (object blo
 unfolding object literal type_tag val_variable all_objects node_object
 at_object {n} block l = one_or (next is_quoted l)
     (and_next _ (one quoted_meant Any l (λ b t s. refl) (λ _ _ _. tt))
-        (λ x k. and_next {X = Any} _ (one_or (next is_caret k)
-            (and_next _ (skipped is_caret k (λ b t s. refl)) (λ _ m. and_next _ (one kind_meant Any m (λ b t s. refl) (λ _ _ _. tt)) (λ kind p. give (Some kind) p (λ _ _. tt))))
-            (give None k tt))
-        (λ tag m. give (objects.Literal x tag) m (λ _ _. Flat n (quoted_word x) (tag_words tag) (λ start. (refl, refl)) (low_tag n tag)))))
+    (λ x k. and_next {X = Any} _ (one_or (next is_caret k)
+    (and_next _ (skipped is_caret k (λ b t s. refl)) (λ _ m. and_next _ (one kind_meant Any m (λ b t s. refl) (λ _ _ _. tt)) (λ kind p. give (Some kind) p (λ _ _. tt))))
+    (give None k tt))
+    (λ tag m. give (objects.Literal x tag) m (λ _ _. Flat n (quoted_word x) (tag_words tag) (λ start. (refl, refl)) (low_tag n tag)))))
     (one_or (next (is_word (codes "val")) l)
-        (and_next _ (at_variable (codes "val") block.upsert l) (λ x k. give (objects.Val x) k (λ le. low_variable n (codes "val") x le)))
-        (one_or (block.delete && next (is_punct marks.star) l)
-            (and_next _ (down (skip (is_punct marks.star) l) (at_sign marks.star (record { tokens = l; refused = 0 }) (λ t s. (refl, refl)))) (λ _ k. give objects.Star k (λ _. low_one n (mark_word marks.star) (λ start. (refl, refl)))))
-            (and_next _ (at_node block l) (λ x k. give (objects.Node x) k (λ h. h)))))
+    (and_next _ (at_variable (codes "val") block.upsert l) (λ x k. give (objects.Val x) k (λ le. low_variable n (codes "val") x le)))
+    (one_or (block.delete && next (is_punct marks.star) l)
+    (and_next _ (down (skip (is_punct marks.star) l) (at_sign marks.star (record { tokens = l; refused = 0 }) (λ t s. (refl, refl)))) (λ _ k. give objects.Star k (λ _. low_one n (mark_word marks.star) (λ start. (refl, refl)))))
+    (and_next _ (at_node block l) (λ x k. give (objects.Node x) k (λ h. h)))))
 
 -- statements that open no more, where so many may stand open
 abbrev LowAll : ℕ → List Statement → Type 0
@@ -173,7 +172,7 @@ at_statement {n} block before l =
     (λ o l3. and_next {X = Any} _ (one_or (next is_label l3) (skipped is_label l3 (λ b t s. refl)) (give tt l3 tt))
     (λ _ l4. and_next _ (down (skip (is_punct marks.dot) l4) (at_level marks.dot (record { tokens = l4; refused = 0 }) (λ t s. (refl, refl))))
     (λ _ l5. give (before ++ record { delete = block.delete; s = s; p = p; o = o } ∷ []) l5
-        (λ le _ ho _ hs all. pushed n before (record { delete = block.delete; s = s; p = p; o = o }) all (low_statement n (record { delete = block.delete; s = s; p = p; o = o }) hs ho, le)))))))
+    (λ le _ ho _ hs all. pushed n before (record { delete = block.delete; s = s; p = p; o = o }) all (low_statement n (record { delete = block.delete; s = s; p = p; o = o }) hs ho, le)))))))
 
 at_turns : {A : Type 0} {n : ℕ} (begins : List Tok → Bool) (reader : A → plain.Reader (List Tok) A) (X : A → Type 0) → ((before : A) (l : List Tok) → Plain n n l (reader before l) (λ after. X before → X after))
     → (k : ℕ) (before : A) (l : List Tok) → Plain n n l (turns k begins reader before l) (λ after. X before → X after)

@@ -1,20 +1,15 @@
 -- What is printed of upsert blocks opens no more brackets than what was read, and their printed text is read again.
-use Rattle.std.proofs.Common.{◌≡◌, ℕ, suc, ◌≤◌, List, [], ◌∷◌, ◌++◌, flat_map, length, ap, refl, sym, ◌∙◌, subst}
-use Rattle.std.specs.Prelude.{Option, Some, None, Ok, codes}
+use Rattle.std.proofs.Common.{ℕ, suc, ◌≤◌, List, [], ◌∷◌, ◌++◌, flat_map, ap, refl, sym, ◌∙◌, subst}
+use Rattle.std.specs.Prelude.{Some, None, codes}
 use Rattle.std.specs.List.{AllByRecursion}
-use Rattle.dg_text.specs.Cases.{Left, Reader, part, mark, optional, repeated}
+use Rattle.dg_text.specs.Cases.{Left}
 use Rattle.dg_text.specs.Marks.{open_round, close_round, open_curly, close_curly}
-use Rattle.dg_text.specs.Reading.{next, and_then, skip}
-use Rattle.dg_text.specs.Spelling.{name_word, at_word, mark_word}
-use Rattle.dg_text.specs.Tokens.{Tok, is_punct, is_word}
-use Rattle.dg_text.specs.Written.{Word}
-use Rattle.dg_nquad.specs.Grammar.{groups}
+use Rattle.dg_text.specs.Reading.{next}
+use Rattle.dg_text.specs.Spelling.{name_word, at_word}
+use Rattle.dg_text.specs.Tokens.{is_word}
 use Rattle.dg_nquad.specs.Texts.{groups_words}
 use Rattle.dg_parse.specs.declared.upsert.UCond.{UCond}
 use Rattle.dg_parse.specs.declared.upsert.UMut.{UMut}
-use Rattle.dg_parse.specs.declared.upsert.Upsert.{Upsert}
-use Rattle.dg_parse.specs.Conditions.{condition}
-use Rattle.dg_parse.specs.Grammar.{braced_blocks}
 use Rattle.dg_parse.specs.Laws.{UpsertReadsBack}
 use Rattle.dg_parse.specs.Printed.{in_round}
 use Rattle.dg_parse.specs.PrintedQuery.{query_words}
@@ -26,7 +21,7 @@ use Rattle.dg_parse.proofs.NestedConditions.{at_condition}
 use Rattle.dg_parse.proofs.NestedFields.{low_curly, at_braced_blocks}
 use Rattle.dg_parse.proofs.NestedGroups.{at_groups}
 use Rattle.dg_parse.proofs.NestedParts.{low_name, low_brackets, low_flat_map}
-use Rattle.dg_parse.proofs.Nesting.{Low, Nothing, Flat, low_append, Kept, bind, gives, weaker, either, Any, at_skip, at_open, at_close, at_repeated}
+use Rattle.dg_parse.proofs.Nesting.{Low, Nothing, Flat, low_append, Kept, bind, gives, weaker, either, at_skip, at_open, at_close, at_repeated}
 use Rattle.dg_parse.proofs.TextAgain.{was_read, of_read, Printed, printed, read_again, opens_low, printed_low}
 use Rattle.dg_parse.proofs.UpsertAgain as again
 use Rattle.dg_parse.proofs.UpsertAgain.{IsUpsert, upsert_reads}
@@ -39,15 +34,15 @@ unfolding mut_of if_part
 at_mut {n} before left =
     bind _ (at_skip (is_word (codes "mutation")) left (λ b t s. refl))
     (λ _ l. bind {X = λ c. Low n (if_words c)} _ (either (next (is_at_word (codes "@if")) l.tokens)
-        (λ e. bind _ (at_skip (is_at_word (codes "@if")) l (λ b t s. refl))
-            (λ _ k. bind _ (at_open open_round k (λ t s. (refl, refl)))
-            (λ _ m. bind _ (at_condition 33 m)
-            (λ c p. bind _ (at_close close_round p (λ t s. (refl, refl)))
-            (λ _ q. gives (Some c) q (λ _ h le _. low_if n c le h))))))
-        (λ e. gives None l (Nothing n)))
+    (λ e. bind _ (at_skip (is_at_word (codes "@if")) l (λ b t s. refl))
+    (λ _ k. bind _ (at_open open_round k (λ t s. (refl, refl)))
+    (λ _ m. bind _ (at_condition 33 m)
+    (λ c p. bind _ (at_close close_round p (λ t s. (refl, refl)))
+    (λ _ q. gives (Some c) q (λ _ h le _. low_if n c le h))))))
+    (λ e. gives None l (Nothing n)))
     (λ c k. bind _ (at_groups k)
     (λ all m. gives (before ++ record { cond = c; mutation = record { statements = all } } ∷ []) m
-        (λ ha hc _. record { item = record { cond = c; mutation = record { statements = all } }; is = refl; good = low_name n (codes "mutation") (if_words c ++ groups_words all) (low_append n (if_words c) (groups_words all) hc ha) }))))
+    (λ ha hc _. record { item = record { cond = c; mutation = record { statements = all } }; is = refl; good = low_name n (codes "mutation") (if_words c ++ groups_words all) (low_append n (if_words c) (groups_words all) hc ha) }))))
 
 muts_low : (n : ℕ) (one all : List UMut) → Added (λ _ m. Low n (mut_words m)) [] one → AddedAll (λ _ m. Low n (mut_words m)) one all → Low n (flat_map mut_words all)
 muts_low n one all a m =
@@ -64,8 +59,8 @@ at_upsert {n} left =
     (λ q p. bind {X = λ all. Low (suc n) (flat_map mut_words all)} _ (bind _ (at_mut [] p) (λ first r. weaker (at_repeated begins_mut mut_of (λ m. Low (suc n) (mut_words m)) at_mut first r) (λ all more one. muts_low (suc n) first all one more)))
     (λ all r. bind _ (at_close close_curly r (λ t s. (refl, refl)))
     (λ _ s. gives (record { query = q; muts = all }) s (λ _ hm hq _ le _.
-        low_name n (codes "upsert") _ (low_curly n (name_word (codes "query") ∷ (query_words q ++ flat_map mut_words all)) le
-        (low_name (suc n) (codes "query") _ (low_append (suc n) (query_words q) (flat_map mut_words all) hq hm))))))))))
+    low_name n (codes "upsert") _ (low_curly n (name_word (codes "query") ∷ (query_words q ++ flat_map mut_words all)) le
+    (low_name (suc n) (codes "query") _ (low_append (suc n) (query_words q) (flat_map mut_words all) hq hm))))))))))
 
 pub upsert_back : UpsertReadsBack
 upsert_back text u e =

@@ -1,18 +1,16 @@
 -- Mutations and upsert blocks are read again.
-use Rattle.std.proofs.Common.{◌≡◌, ℕ, suc, ◌<◌, Bool, true, false, ◌||◌, List, [], ◌∷◌, ◌++◌, length, flat_map, map, ap, refl, sym, ◌∙◌, subst, append_assoc, arith}
-use Rattle.std.specs.Prelude.{Option, Some, None, Result, Ok, Err, codes, if◌then◌else◌}
+use Rattle.std.proofs.Common.{◌≡◌, ℕ, suc, Bool, true, ◌||◌, List, [], ◌∷◌, ◌++◌, flat_map, map, ap, refl, sym, ◌∙◌, subst, arith}
+use Rattle.std.specs.Prelude.{Option, Some, None, Ok, Err, codes}
 use Rattle.std.specs.List.{AllByRecursion}
-use Rattle.dg_text.specs.Cases.{Left, Reader, met, part, mark, word, optional, repeated}
+use Rattle.dg_text.specs.Cases.{Left, met, part, optional, repeated}
 use Rattle.dg_text.specs.Listed.{AreListed}
 use Rattle.dg_text.specs.Marks.{open_round, close_round, open_curly, close_curly}
-use Rattle.dg_text.specs.Reading as plain
-use Rattle.dg_text.specs.Reading.{Read, next, and_then, skip}
-use Rattle.dg_text.specs.Spelling.{name_word, at_word, mark_word}
+use Rattle.dg_text.specs.Reading.{Read, next}
+use Rattle.dg_text.specs.Spelling.{name_word, mark_word}
 use Rattle.dg_text.specs.Tokens.{Tok, is_punct, is_word}
 use Rattle.dg_text.specs.Written.{Word, IsWord, word_said, tok_said}
-use Rattle.dg_text.proofs.Leaving.{Ends, all_left, further}
+use Rattle.dg_text.proofs.Leaving.{Ends, further}
 use Rattle.dg_text.proofs.NameSpelling.{names_are_whole}
-use Rattle.dg_nquad.specs.declared.mutation.Mutation.{Mutation}
 use Rattle.dg_nquad.specs.declared.mutation.Statement.{Statement}
 use Rattle.dg_nquad.specs.Grammar.{statement, groups, begins_statement}
 use Rattle.dg_nquad.specs.Grouped.{AreGrouped, IsGrouped}
@@ -26,10 +24,8 @@ use Rattle.dg_nquad.proofs.StatementWords.{groups_are}
 use Rattle.dg_parse.specs.declared.upsert.UCond.{UCond}
 use Rattle.dg_parse.specs.declared.upsert.UMut.{UMut}
 use Rattle.dg_parse.specs.declared.upsert.Upsert.{Upsert}
-use Rattle.dg_parse.specs.Conditions.{condition}
 use Rattle.dg_parse.specs.Grammar.{braced_blocks}
 use Rattle.dg_parse.specs.PrintedQuery.{query_words}
-use Rattle.dg_parse.specs.Printed.{in_round}
 use Rattle.dg_parse.specs.PrintedUpsert.{cond_words, if_words, mut_words, upsert_words}
 use Rattle.dg_parse.specs.Upsert.{is_at_word, if_part, mut_of, begins_mut, muts, upsert}
 use Rattle.dg_parse.proofs.Again.{Each, Reads, AreWords, bind, gives, weaker, either, at_skip, words_append, never, at, on, tok_from, behind, on_append}
@@ -37,8 +33,8 @@ use Rattle.dg_parse.proofs.BlocksAgain.{AreBlocks, at_braced_blocks, braced_bloc
 use Rattle.dg_parse.proofs.ConditionWords.{IsCond}
 use Rattle.dg_parse.proofs.ConditionsAgain.{at_condition, condition_reads}
 use Rattle.dg_parse.proofs.FixedWords.{fixed, fixed_at, sign}
-use Rattle.dg_parse.proofs.Formed.{IsFormed, AreFormed}
-use Rattle.dg_parse.proofs.Lists.{Added, AddedAll, Items, Repeats, at_repeated, repeated_reads, all_of, items_of}
+use Rattle.dg_parse.proofs.Formed.{AreFormed}
+use Rattle.dg_parse.proofs.Lists.{Added, AddedAll, Repeats, at_repeated, repeated_reads, all_of, items_of}
 
 -- ---- groups of statements
 
@@ -77,11 +73,13 @@ at_groups left = by (groups true left.tokens) refl
     by : (r : Read (List Tok) (List Statement)) → groups true left.tokens ≡ r → Each left (met left.refused r) (λ all l. AreStatements all)
     by (Ok p) e =
         let ends : Ends left.tokens p.1 = groups_end p.0 left.tokens p.1 e in
-        record { it = record {
-          formed = λ a. end_formed ends.tokens p.1 (subst (λ (l : List Tok). AreFormed l) ends.is a);
-          earlier = λ z. z;
-          so = λ a z. (read_stand_alone true p.0 left.tokens p.1 (as_nquad left.tokens a) e).0;
-        } }
+        record {
+          it = record {
+            formed = λ a. end_formed ends.tokens p.1 (subst (λ (l : List Tok). AreFormed l) ends.is a);
+            earlier = λ z. z;
+            so = λ a z. (read_stand_alone true p.0 left.tokens p.1 (as_nquad left.tokens a) e).0;
+          };
+        }
     by (Err place) e = record { it = tt }
 
 on_front : (f : ℕ → ℕ) (ws : List Word) (rest : List Tok) → on f ws rest ≡ on f ws [] ++ rest
@@ -117,15 +115,15 @@ unfolding mut_of if_part
 at_mut before left =
     bind _ (at_skip (is_word (codes "mutation")) left)
     (λ _ l. bind {X = λ c _. IsAnyCond c} _ (either (next (is_at_word (codes "@if")) l.tokens)
-        (λ e. bind _ (at_skip (is_at_word (codes "@if")) l)
-            (λ _ k. bind _ (at_skip (is_punct open_round) k)
-            (λ _ m. bind _ (at_condition 33 m)
-            (λ c p. bind _ (at_skip (is_punct close_round) p)
-            (λ _ q. gives (Some c) q (λ _ h _ _. h))))))
-        (λ e. gives None l tt))
+    (λ e. bind _ (at_skip (is_at_word (codes "@if")) l)
+    (λ _ k. bind _ (at_skip (is_punct open_round) k)
+    (λ _ m. bind _ (at_condition 33 m)
+    (λ c p. bind _ (at_skip (is_punct close_round) p)
+    (λ _ q. gives (Some c) q (λ _ h _ _. h))))))
+    (λ e. gives None l tt))
     (λ c k. bind _ (at_groups k)
     (λ all m. gives (before ++ record { cond = c; mutation = record { statements = all } } ∷ []) m
-        (λ ha hc _. record { item = record { cond = c; mutation = record { statements = all } }; is = refl; good = record { cond = hc; all = ha } }))))
+    (λ ha hc _. record { item = record { cond = c; mutation = record { statements = all } }; is = refl; good = record { cond = hc; all = ha } }))))
 
 -- mutations that can be written: one or more
 pub record AreMuts (all : List UMut) : Type 0 where
@@ -136,7 +134,8 @@ pub record AreMuts (all : List UMut) : Type 0 where
 
 muts_are : (one all : List UMut) → Added (λ _ m. IsMut m) [] one → AddedAll (λ _ m. IsMut m) one all → AreMuts all
 muts_are one all a m = record {
-  first = a.item; more = m.items;
+  first = a.item;
+  more = m.items;
   is = m.is ∙ ap (λ l. l ++ m.items) a.is;
   good = (a.good, all_of IsMut one m.items m.good);
 }
@@ -226,6 +225,10 @@ upsert_reads u h =
           let g : ℕ → ℕ = λ n. f (suc (suc (suc n))) in
           let g2 : ℕ → ℕ = behind g (query_words u.query) in
           let c : List Tok = on (behind g ws) (mark_word close_curly ∷ []) rest in
-          rw (on_append g ws (mark_word close_curly ∷ []) rest, on_append g (query_words u.query) (flat_map mut_words u.muts) c,
-              q.again g (on g2 (flat_map mut_words u.muts) c) refl, ms.again g2 c refl) refl;
+          rw (
+            on_append g ws (mark_word close_curly ∷ []) rest,
+            on_append g (query_words u.query) (flat_map mut_words u.muts) c,
+            q.again g (on g2 (flat_map mut_words u.muts) c) refl,
+            ms.again g2 c refl,
+          ) refl;
     }
