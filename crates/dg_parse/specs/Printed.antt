@@ -25,10 +25,6 @@ use Rattle.dg_text.specs.Quoting.{quoted_word}
 use Rattle.dg_text.specs.Spelling.{uid_word, name_word, at_word, int_word, regex_word, mark_word}
 use Rattle.dg_text.specs.Written.{Word}
 
--- words of a Name each, as the grammar has them
-abbrev pub fixed : List ℕ → List Word
-fixed text = name_word text ∷ []
-
 -- "(" .. ")"
 abbrev pub in_round : List Word → List Word
 in_round ws = mark_word open_round ∷ (ws ++ mark_word close_round ∷ [])
