@@ -2,3 +2,11 @@ pub mod NoVariables
 pub mod TokensSay
 pub mod Listed
 pub mod PlainListed
+pub mod Understood
+pub mod Standing
+pub mod StatementWords
+pub mod Formed
+pub mod GroupsBack
+pub mod MutationBack
+pub mod GroupsListed
+pub mod Printed

@@ -92,7 +92,7 @@ statement_adds block before left =
     (λ _ l4 e4. past Q left l4 (is_punct marks.dot) _ e4
     (λ rest shorter. record { member = record { delete = block.delete; s = s; p = p; o = o }; is = refl; shorter = shorter })))))
 
-adds_one : (block : Block) → AddsOne begins_statement (statement block)
+pub adds_one : (block : Block) → AddsOne begins_statement (statement block)
 adds_one block = record {
   one = λ before x left rest e. subst (λ (read : Read (List Tok) (List Statement)). AllOf (λ x rest. Adds before x left rest) read) e (statement_adds block before left);
   none = refl;

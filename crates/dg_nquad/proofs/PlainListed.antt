@@ -24,7 +24,7 @@ value_or : List Statement → Result (List Statement) NquadFault → List Statem
 value_or d (Ok x) = x
 value_or d (Err e) = d
 
-whole_of : (tokens : List Tok) (end : ℕ) (read : Read (List Tok) (List Statement)) (all : List Statement) → outcome tokens end read ≡ Ok all → read ≡ Ok (all, [])
+pub whole_of : (tokens : List Tok) (end : ℕ) (read : Read (List Tok) (List Statement)) (all : List Statement) → outcome tokens end read ≡ Ok all → read ≡ Ok (all, [])
 unfolding value_or
 whole_of tokens end (Ok (x, [])) all h =
     let same : x ≡ all = ap (value_or x) h in

@@ -1,6 +1,6 @@
 -- What the lexer calls a Quoted or a Blank says something.
-use Rattle.std.proofs.Common.{◌≡◌, ℕ, ◌+◌, ◌-◌, true, false, List, Some, [], ◌∷◌, ◌++◌, length, take, drop, take-append-drop, length-append, append_assoc, subst, refl, sym, ap, ◌∙◌, arith}
-use Rattle.std.specs.Prelude.{Ok, is_some}
+use Rattle.std.proofs.Common.{◌≡◌, ℕ, ◌+◌, ◌-◌, true, false, List, Some, [], ◌∷◌, ◌++◌, length, take, drop, take-append-drop, length-append, length-take, append_assoc, subst, refl, sym, ap, ◌∙◌, arith}
+use Rattle.std.specs.Prelude.{Ok, is_some, ◌≤◌, IsTrue}
 use Rattle.std.proofs.lemmas.Bool.{false≢true}
 use Rattle.std.specs.List.{AllByRecursion, concat, slice_range}
 use Rattle.std.specs.Option.{option_map}
@@ -9,7 +9,9 @@ use Rattle.dg_text.specs.Escapes.{unescaped}
 use Rattle.dg_text.specs.Language.{HasForm, IsBlank, IsQuoted}
 use Rattle.dg_text.specs.Lexing.{lexed}
 use Rattle.dg_text.specs.Tokenized.{IsGap, TokensFrom}
-use Rattle.dg_text.specs.Tokens.{tok_of, toks_of}
+use Rattle.dg_text.specs.Tokens.{Tok, tok_of, toks_of}
+use Rattle.dg_text.specs.Forms.{is_short}
+use Rattle.dg_text.specs.Written.{IsWord}
 use Rattle.dg_text.specs.declared.token.Token.{Token}
 use Rattle.dg_text.specs.declared.token.TokenKind.{TokenKind}
 use Rattle.dg_text.specs.declared.token.TokenKind.TheVariants as kinds
@@ -80,14 +82,27 @@ after_gap text left rest len e g =
       is = e.is ∙ ap (λ (l : List ℕ). e.front ++ l) split ∙ sym (append_assoc e.front (take len left) (gap ++ rest)) ∙ sym (append_assoc (e.front ++ take len left) gap rest);
     }
 
-tokens_from_say : (text : List ℕ) (tokens : List Token) (end left : List ℕ) → EndsWith text left → TokensFrom (length text) tokens end left → AllByRecursion IsSaid (toks_of text tokens)
-tokens_from_say text [] end left e f = tt
-tokens_from_say text (t ∷ more) end left e f =
-    let chars : slice_range text t.start t.end ≡ take f.len left = chars_are text left t.start t.end f.len e f.start f.end in
-    (token_says text t (subst (HasForm t.kind) (sym chars) f.starts.form), tokens_from_say text more end f.rest (after_gap text left f.rest f.len e f.gap) f.more)
+-- the token at the front of what is left is a word
+word_at : (text left : List ℕ) (t : Token) (len : ℕ) → slice_range text t.start t.end ≡ take len left → len ≤ length left → HasForm t.kind (take len left) → IsTrue (is_short t.kind len) → IsWord (t.kind, slice_range text t.start t.end)
+word_at text left t len chars within form short =
+    let long : length (take len left) ≡ len = omega (arith, length-take len left) in
+    subst (λ (c : List ℕ). IsWord (t.kind, c)) (sym chars) (record { form = form; short = subst (λ (n : ℕ). IsTrue (is_short t.kind n)) (sym long) short })
 
--- the tokens of a text that is read
-pub lexed_say : (text : List ℕ) (tokens : List Token) → lexed text ≡ Ok tokens → AllByRecursion IsSaid (toks_of text tokens)
-lexed_say text tokens e =
+-- what holds of each token that is a word in its text
+abbrev pub HoldsOfWords : (Tok → Type 0) → Type 0
+HoldsOfWords P = (text : List ℕ) (t : Token) → IsWord (t.kind, slice_range text t.start t.end) → P (tok_of text t)
+
+tokens_from : (P : Tok → Type 0) → HoldsOfWords P → (text : List ℕ) (tokens : List Token) (end left : List ℕ) → EndsWith text left → TokensFrom (length text) tokens end left → AllByRecursion P (toks_of text tokens)
+tokens_from P h text [] end left e f = tt
+tokens_from P h text (t ∷ more) end left e f =
+    let chars : slice_range text t.start t.end ≡ take f.len left = chars_are text left t.start t.end f.len e f.start f.end in
+    (h text t (word_at text left t f.len chars f.starts.within f.starts.form f.starts.short), tokens_from P h text more end f.rest (after_gap text left f.rest f.len e f.gap) f.more)
+
+-- it holds of all tokens of a text
+pub all_tokens : (P : Tok → Type 0) → HoldsOfWords P → (text : List ℕ) (tokens : List Token) → lexed text ≡ Ok tokens → AllByRecursion P (toks_of text tokens)
+all_tokens P h text tokens e =
     let o = (lexed_tokens text tokens).0 e in
-    tokens_from_say text tokens [] o.rest (after_gap text text o.rest 0 (record { front = []; is = refl }) o.gap) o.from
+    tokens_from P h text tokens [] o.rest (after_gap text text o.rest 0 (record { front = []; is = refl }) o.gap) o.from
+
+pub lexed_say : (text : List ℕ) (tokens : List Token) → lexed text ≡ Ok tokens → AllByRecursion IsSaid (toks_of text tokens)
+lexed_say text tokens e = all_tokens IsSaid (λ text t w. token_says text t w.form) text tokens e

@@ -1,5 +1,5 @@
 -- What the tokens of a text say, and that its statements stand one after the other.
-use Rattle.std.specs.Prelude.{◌≡◌, ◌↔◌, ℕ, true, false, List, [], ◌++◌, Ok, IsSome}
+use Rattle.std.specs.Prelude.{◌≡◌, ◌↔◌, ℕ, Bool, true, false, List, [], ◌++◌, Ok, IsSome}
 use Rattle.std.specs.List.{AllByRecursion}
 use Rattle.dg_text.specs.Lexing.{lexed}
 use Rattle.dg_text.specs.Tokens.{Tok, toks_of, is_blank, is_punct, is_quoted}
@@ -10,7 +10,8 @@ use Rattle.dg_text.specs.Marks.{open_curly}
 use Rattle.dg_text.specs.Reading.{next}
 use Rattle.dg_nquad.specs.declared.block.Block.{Block}
 use Rattle.dg_nquad.specs.declared.mutation.Statement.{Statement}
-use Rattle.dg_nquad.specs.Grammar.{statement, statements, begins_statement, plain_set}
+use Rattle.dg_nquad.specs.Grammar.{statement, statements, groups, begins_statement, plain_set}
+use Rattle.dg_nquad.specs.Grouped.{IsGrouped}
 use Rattle.dg_nquad.specs.Whole.{mutation}
 
 -- where the token is a Quoted or a Blank, it says a text or a name
@@ -30,3 +31,13 @@ StatementsAreListed = (block : Block) (before all : List Statement) (left end : 
 abbrev pub PlainIsListed : Type 0
 PlainIsListed = (text : List ℕ) (tokens : List Token) (all : List Statement) → lexed text ≡ Ok tokens → next (is_punct open_curly) (toks_of text tokens) ≡ false
     → (mutation text ≡ Ok all) ↔ AreListed begins_statement (statement plain_set) [] all [] (toks_of text tokens)
+
+-- statements are read in groups exactly where these stand there, one after the other
+abbrev pub GroupsAreListed : Type 0
+GroupsAreListed = (upsert : Bool) (all : List Statement) (left rest : List Tok) → (groups upsert left ≡ Ok (all, rest)) ↔ IsGrouped upsert all left rest
+
+-- A text with groups says statements exactly where its tokens are `{`, groups one after the other, each with its own
+-- statements one after the other, and `}`, and nothing is left.
+abbrev pub GroupedIsListed : Type 0
+GroupedIsListed = (text : List ℕ) (tokens : List Token) (all : List Statement) → lexed text ≡ Ok tokens → next (is_punct open_curly) (toks_of text tokens) ≡ true
+    → (mutation text ≡ Ok all) ↔ IsGrouped false all (toks_of text tokens) []

@@ -10,11 +10,12 @@ mod fault;
 pub mod grammar;
 mod laws;
 mod mutation;
+pub mod printing;
 mod reading;
 mod terms;
 mod words;
 
 pub use fault::NquadFault;
-pub use laws::{statements_are_listed, tokens_say};
+pub use laws::{groups_are_listed, statements_are_listed, statements_read_back, tokens_say};
 pub use mutation::{Mutation, Node, Object, Statement};
 pub use reading::read_mutation;

@@ -1,5 +1,10 @@
 // What a mutation says.
-use dg_values::{Kind, List, Str};
+ghost use Rattle.std.specs.Prelude.{◌≡◌, IfOk, string_bytes};
+ghost use Rattle.dg_nquad.specs.Texts.{mutation_text};
+
+use crate::printing::groups_text;
+use dg_values::{Kind, List, Mem, OutOfMemory, Str};
+use std::alloc::Global;
 
 /// A node as a statement names it.
 #[derive(Debug, Drop)]
@@ -43,4 +48,14 @@ pub struct Statement {
 pub struct Mutation {
     /// The statements.
     pub statements: List<Statement>,
+}
+
+impl Mutation {
+    /// The text of the statements: each in a group of its own, with a blank behind each word. Where the statements are those
+    /// of a text, it reads as them again.
+    pub fn text_of(&self, alloc: Global) -> Mem<String>
+        ensures { IfOk result (λ text. string_bytes text ≡ mutation_text self.now.statements) }
+    {
+        Ok(groups_text(alloc, self.statements.as_slice())?.into_string())
+    }
 }

@@ -15,3 +15,6 @@ pub mod Conditions
 pub mod Upsert
 pub mod Whole
 pub mod Depth
+pub mod Printed
+pub mod PrintedQuery
+pub mod Laws

@@ -18,6 +18,7 @@ mod fronts;
 mod functions;
 mod items;
 mod keys;
+mod laws;
 mod listed;
 mod literals;
 mod names;
@@ -31,6 +32,7 @@ mod words;
 
 pub use depth::depth_is_never_met;
 pub use fault::DqlFault;
+pub use laws::queries_read_back;
 pub use query::{
     AggOp, CmpOp, QArg, QBlock, QDir, QEdge, QField, QFilter, QFunc, QItem, QOf, QOpt, QOrder,
     QPart, Query, UidArg,

@@ -133,14 +133,18 @@ quoted_found (b ∷ rest) some = by (b == 34) refl
         }
     by false e = absurd (let none : quoted_len (b ∷ rest) ≡ 0 = rw e refl in omega (arith, some, none))
 
-pub quoted_most : (text rest : List ℕ) → IsQuoted text → length text ≤ quoted_len (text ++ rest)
-quoted_most text rest q =
+-- no more bytes are a Quoted, whatever stands behind it
+pub quoted_exact : (text rest : List ℕ) → IsQuoted text → quoted_len (text ++ rest) ≡ length text
+quoted_exact text rest q =
     let joined : (concat q.pieces ++ 34 ∷ []) ++ rest ≡ concat q.pieces ++ 34 ∷ rest = append_assoc (concat q.pieces) (34 ∷ []) rest in
     let n : ℕ = closing delimiters.Quote (concat q.pieces ++ 34 ∷ rest) 0 in
     let len : n ≡ suc (length (concat q.pieces)) = closing_is delimiters.Quote q.pieces rest q.each in
     let same : quoted_len (34 ∷ ((concat q.pieces ++ 34 ∷ []) ++ rest)) ≡ one_more n = ap (λ (t : List ℕ). one_more (closing delimiters.Quote t 0)) joined in
     let more : one_more n ≡ suc n = one_more_is n (omega (arith, len)) in
-    subst (λ (t : List ℕ). length t ≤ quoted_len (t ++ rest)) (sym q.is) (omega (arith, same, more, len, long_by_one (concat q.pieces) 34))
+    subst (λ (t : List ℕ). quoted_len (t ++ rest) ≡ length t) (sym q.is) (omega (arith, same, more, len, long_by_one (concat q.pieces) 34))
+
+pub quoted_most : (text rest : List ℕ) → IsQuoted text → length text ≤ quoted_len (text ++ rest)
+quoted_most text rest q = omega (arith, quoted_exact text rest q)
 
 -- ---- Regex
 
@@ -231,5 +235,19 @@ regex_most text rest r = subst (λ (t : List ℕ). length t ≤ regex_len (t ++ 
         (let same : regex_len (47 ∷ ((concat r.pieces ++ 47 ∷ []) ++ rest)) ≡ regex_len (47 ∷ (concat r.pieces ++ 47 ∷ rest)) = ap (λ (t : List ℕ). regex_len (47 ∷ t)) (append_assoc (concat r.pieces) (47 ∷ []) rest) in
         omega (arith, same, regex_is r.pieces rest r.each r.some, regex_least (next is_i rest) (suc (length (concat r.pieces))), long_by_one (concat r.pieces) 47))
     by flag (inr e) = subst (λ (f : List ℕ). length (47 ∷ (concat r.pieces ++ 47 ∷ f)) ≤ regex_len (47 ∷ ((concat r.pieces ++ 47 ∷ f) ++ rest))) (sym e)
+        (let same : regex_len (47 ∷ ((concat r.pieces ++ 47 ∷ 105 ∷ []) ++ rest)) ≡ regex_len (47 ∷ (concat r.pieces ++ 47 ∷ 105 ∷ rest)) = ap (λ (t : List ℕ). regex_len (47 ∷ t)) (append_assoc (concat r.pieces) (47 ∷ 105 ∷ []) rest) in
+        omega (arith, same, regex_is r.pieces (105 ∷ rest) r.each r.some, long_by_two (concat r.pieces) 47 105))
+
+-- no more bytes are a Regex where no i stands behind it
+pub regex_exact : (text rest : List ℕ) → IsRegex text → next is_i rest ≡ false → regex_len (text ++ rest) ≡ length text
+regex_exact text rest r none = subst (λ (t : List ℕ). regex_len (t ++ rest) ≡ length t) (sym r.is) (by r.flag r.flagged)
+  where
+    by : (flag : List ℕ) → (flag ≡ []) ⊎ (flag ≡ 105 ∷ []) → regex_len ((47 ∷ (concat r.pieces ++ 47 ∷ flag)) ++ rest) ≡ length (47 ∷ (concat r.pieces ++ 47 ∷ flag))
+    by flag (inl e) = subst (λ (f : List ℕ). regex_len (47 ∷ ((concat r.pieces ++ 47 ∷ f) ++ rest)) ≡ length (47 ∷ (concat r.pieces ++ 47 ∷ f))) (sym e)
+        (let n : ℕ = length (concat r.pieces) in
+        let same : regex_len (47 ∷ ((concat r.pieces ++ 47 ∷ []) ++ rest)) ≡ regex_len (47 ∷ (concat r.pieces ++ 47 ∷ rest)) = ap (λ (t : List ℕ). regex_len (47 ∷ t)) (append_assoc (concat r.pieces) (47 ∷ []) rest) in
+        let unflagged : cond (next is_i rest) (suc (suc (suc n))) (suc (suc n)) ≡ suc (suc n) = ap (λ (v : Bool). cond v (suc (suc (suc n))) (suc (suc n))) none in
+        omega (arith, same, regex_is r.pieces rest r.each r.some, unflagged, long_by_one (concat r.pieces) 47))
+    by flag (inr e) = subst (λ (f : List ℕ). regex_len (47 ∷ ((concat r.pieces ++ 47 ∷ f) ++ rest)) ≡ length (47 ∷ (concat r.pieces ++ 47 ∷ f))) (sym e)
         (let same : regex_len (47 ∷ ((concat r.pieces ++ 47 ∷ 105 ∷ []) ++ rest)) ≡ regex_len (47 ∷ (concat r.pieces ++ 47 ∷ 105 ∷ rest)) = ap (λ (t : List ℕ). regex_len (47 ∷ t)) (append_assoc (concat r.pieces) (47 ∷ 105 ∷ []) rest) in
         omega (arith, same, regex_is r.pieces (105 ∷ rest) r.each r.some, long_by_two (concat r.pieces) 47 105))

@@ -21,7 +21,7 @@ use Rattle.dg_text.proofs.ClosedForms.{quoted_found, quoted_most, regex_found, r
 -- ---- the kind of a text that has a form
 
 -- the kind by the first two bytes
-abbrev kind_of : List ℕ → TokenKind
+abbrev pub kind_of : List ℕ → TokenKind
 kind_of [] = kinds.Caret
 kind_of (b ∷ rest) =
     cond (is_letter b) (cond (next (λ c. c == 58) rest) kinds.Blank kinds.Name)
@@ -75,7 +75,7 @@ punct_kind b text p =
     let apart = punct_apart b p.alone in
     subst (λ (t : List ℕ). kinds.Punct b ≡ kind_of t) (sym p.is) (rw (apart.0, apart.1, p.alone) refl)
 
-form_kind : (kind : TokenKind) (text : List ℕ) → HasForm kind text → kind ≡ kind_of text
+pub form_kind : (kind : TokenKind) (text : List ℕ) → HasForm kind text → kind ≡ kind_of text
 form_kind kinds.Name text f = name_kind text f
 form_kind kinds.Int text f = int_kind text f
 form_kind kinds.Uid text f = subst (λ (t : List ℕ). kinds.Uid ≡ kind_of t) (sym f.is) refl

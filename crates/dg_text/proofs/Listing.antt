@@ -39,12 +39,30 @@ abbrev left_or : {E A : Type 0} → List E → Read (List E) A → List E
 left_or d (Ok x) = x.1
 left_or d (Err place) = d
 
-module _ {E S : Type 0} (begins : List E → Bool) (part : List S → Reader (List E) (List S)) (adds : AddsOne begins part) where
+module _ {E S : Type 0} (begins : List E → Bool) (part : List S → Reader (List E) (List S)) where
   no_turn : (n : ℕ) (before : List S) (left : List E) → begins left ≡ false → turns n begins part before left ≡ Ok (before, left)
   unfolding turns
   no_turn zero before left b = refl
   no_turn (suc n) before left b = rw b refl
 
+  one_turn : (n : ℕ) (before x : List S) (left rest : List E) → begins left ≡ true → part before left ≡ Ok (x, rest) → turns (suc n) begins part before left ≡ turns n begins part x rest
+  unfolding turns
+  one_turn n before x left rest b e = rw (b, e) refl
+
+  back : (all before : List S) (n : ℕ) (end left : List E) → length left ≤ n → AreListed begins part before all end left → turns n begins part before left ≡ Ok (before ++ all, end)
+  back [] before n end left le a =
+      no_turn n before left (subst (λ (l : List E). begins l ≡ false) (sym a.0) a.1) ∙ (λ i. Ok (sym (append-nil before) i, a.0 i))
+  back (s ∷ all) before zero end left le a = absurd (omega (arith, le, a.some, ap length a.is, length-append a.tokens a.rest))
+  back (s ∷ all) before (suc n) end left le a =
+      one_turn n before (before ++ s ∷ []) left a.rest a.begun a.read
+      ∙ back all (before ++ s ∷ []) n end a.rest (omega (arith, le, a.some, ap length a.is, length-append a.tokens a.rest)) a.more
+      ∙ ap (λ (l : List S). Ok (l, end)) (append_assoc before (s ∷ []) all)
+
+  -- such a list is read, whatever else the part reads
+  pub listed_read : (before all : List S) (end left : List E) → AreListed begins part before all end left → repeated begins part before left ≡ Ok (before ++ all, end)
+  listed_read before all end left a = back all before (length left) end left (omega arith) a
+
+module _ {E S : Type 0} (begins : List E → Bool) (part : List S → Reader (List E) (List S)) (adds : AddsOne begins part) where
   nothing : (before x : List S) (end left : List E) → begins left ≡ false → ◌≡◌ {A = Read (List E) (List S)} (Ok (before, left)) (Ok (x, end)) → Listed begins part before x end left
   nothing before x end left b e =
       let same : before ≡ x = ap (value_or before) e in
@@ -75,7 +93,8 @@ module _ {E S : Type 0} (begins : List E → Bool) (part : List S → Reader (Li
       joined before x y.0 end left y.1 b e a (again y.0 y.1 (omega (arith, le, less left y.1 a.shorter)) h)
   after_turn n before x end left (Err place) again le b e h = absurd (cc)
 
-  listed : (n : ℕ) (before x : List S) (end left : List E) → length left ≤ n → turns n begins part before left ≡ Ok (x, end) → Listed begins part before x end left
+  -- what is read up to a list's end is such a list
+  pub listed : (n : ℕ) (before x : List S) (end left : List E) → length left ≤ n → turns n begins part before left ≡ Ok (x, end) → Listed begins part before x end left
   unfolding turns
   listed zero before x end [] le h = nothing before x end [] adds.none h
   listed zero before x end (t ∷ left) le h = absurd (omega arith)
@@ -91,22 +110,5 @@ module _ {E S : Type 0} (begins : List E → Bool) (part : List S → Reader (Li
       let found = listed (length left) before (before ++ all) end left (omega arith) h in
       subst (λ (l : List S). AreListed begins part before l end left) (append_same before found.all all (sym found.is)) found.are
 
-  one_turn : (n : ℕ) (before x : List S) (left rest : List E) → begins left ≡ true → part before left ≡ Ok (x, rest) → turns (suc n) begins part before left ≡ turns n begins part x rest
-  unfolding turns
-  one_turn n before x left rest b e = rw (b, e) refl
-
-  back : (all before : List S) (n : ℕ) (end left : List E) → length left ≤ n → AreListed begins part before all end left → turns n begins part before left ≡ Ok (before ++ all, end)
-  back [] before n end left le a =
-      no_turn n before left (subst (λ (l : List E). begins l ≡ false) (sym a.0) a.1) ∙ (λ i. Ok (sym (append-nil before) i, a.0 i))
-  back (s ∷ all) before zero end left le a = absurd (omega (arith, le, a.some, ap length a.is, length-append a.tokens a.rest))
-  back (s ∷ all) before (suc n) end left le a =
-      one_turn n before (before ++ s ∷ []) left a.rest a.begun a.read
-      ∙ back all (before ++ s ∷ []) n end a.rest (omega (arith, le, a.some, ap length a.is, length-append a.tokens a.rest)) a.more
-      ∙ ap (λ (l : List S). Ok (l, end)) (append_assoc before (s ∷ []) all)
-
-  -- such a list is read
-  pub listed_read : (before all : List S) (end left : List E) → AreListed begins part before all end left → repeated begins part before left ≡ Ok (before ++ all, end)
-  listed_read before all end left a = back all before (length left) end left (omega arith) a
-
   pub lists : (before all : List S) (end left : List E) → (repeated begins part before left ≡ Ok (before ++ all, end)) ↔ AreListed begins part before all end left
-  lists before all end left = (is_listed before all end left, listed_read before all end left)
+  lists before all end left = (is_listed before all end left, listed_read begins part before all end left)
