@@ -300,7 +300,8 @@ class Held:
         elif call == "with":
             self.schema = {**self.schema, **read}
         elif call == "single" and read:
-            self.schema = dict(list(read.items())[:1])
+            name = min(read, key=str.encode)
+            self.schema = {name: read[name]}
         elif call == "lay aside":
             self.aside, self.schema = self.schema, {}
         elif call == "put on aside":

@@ -1,8 +1,10 @@
--- Which definitions can be written in the schema language, that what is read can be, and that what is printed reads back.
+-- Which definitions can be written in the schema language, what a schema keeps, that what is read can be written, and that
+-- what is printed reads back.
 use Rattle.std.specs.Prelude.{◌≡◌, ℕ, true, false, ◌==◌, length, List, Ok}
 use Rattle.std.specs.List.{list_all, AllByRecursion}
 use Rattle.dg_schema.specs.declared.definition.PredDef.{PredDef}
 use Rattle.dg_schema.specs.Definitions.{AreDistinct, with_definitions}
+use Rattle.dg_schema.specs.Places.{IsIndexed}
 use Rattle.dg_text.specs.Words.{is_whole_name, is_reserved}
 use Rattle.dg_schema.specs.Words.{fits_kind, is_uid}
 use Rattle.dg_schema.specs.Grammar.{distinct}
@@ -21,6 +23,11 @@ pub record IsReadable (d : PredDef) : Type 0 where
 -- each of them can be written
 abbrev pub AreReadable : List PredDef → Type 0
 AreReadable definitions = AllByRecursion IsReadable definitions
+
+-- what a schema keeps: its definitions have their places in order of the names, and can be written
+pub record IsSchema (definitions : List PredDef) (places : List ℕ) : Type 0 where
+  pub indexed : IsIndexed definitions places
+  pub readable : AreReadable definitions
 
 -- the text of definitions reads as these definitions, in ascending order of their names
 abbrev pub ReadsBack : Type 0

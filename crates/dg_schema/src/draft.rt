@@ -3,6 +3,7 @@ ghost use Rattle.std.specs.Prelude.{◌≡◌, false, fold, [], ◌∷◌, ◌++
 ghost use Rattle.std.specs.BTreeMap.{values};
 ghost use Rattle.dg_schema.specs.Definitions.{is_declared};
 ghost use Rattle.dg_schema.specs.Joined.{with_missing};
+ghost use Rattle.dg_schema.specs.Readable.{AreReadable};
 
 use crate::{PredDef, Schema};
 use dg_values::{Mem, OutOfMemory, Str};
@@ -75,8 +76,9 @@ impl Draft {
         Ok(())
     }
 
-    /// The definitions as a schema.
+    /// The definitions as a schema, where each can be written.
     pub fn into_schema(self) -> Mem<Schema>
+        requires readable { AreReadable self }
         ensures { IfOk result (λ schema. schema ≡ self) }
     {
         let Draft {

@@ -2,6 +2,7 @@
 ghost use Rattle.std.specs.Prelude.{◌≡◌, ◌≤◌, length, drop, Ok};
 ghost use Rattle.dg_text.specs.Tokens.{toks, AreCut};
 ghost use Rattle.dg_text.specs.Sizes.{AreSmall};
+ghost use Rattle.dg_schema.specs.Readable.{AreReadable};
 ghost use Rattle.dg_schema.specs.Whole.{line_feeds, line_at, schema_of, from_front, schema, Reads};
 
 use crate::draft::Draft;
@@ -43,6 +44,7 @@ fn line_of(text: &str, offset: u32) -> u32
 
 // The schema of these definitions.
 fn made(all: Draft) -> Result<Schema, SchemaFault>
+    requires readable { AreReadable all }
     ensures { Reads result (Ok all) }
 {
     match all.into_schema() {
@@ -51,14 +53,14 @@ fn made(all: Draft) -> Result<Schema, SchemaFault>
     }
 }
 
-// The schema that tokens say, where they end at a place of the text.
+// The definitions that tokens say, where they end at a place of the text.
 fn read_tokens(
     alloc: Global,
     words: &Words,
     text: &str,
     tokens: &[Piece],
     end: usize,
-) -> Result<Schema, SchemaFault>
+) -> Result<Draft, SchemaFault>
     requires size { length text.now ≤ 1048576 }
     requires small { AreSmall (toks tokens.now) }
     requires end { end ≤ length text.now }
@@ -68,7 +70,7 @@ fn read_tokens(
         Ok((all, at)) => {
             let place = left(tokens, at);
             if place == 0 && end == text.len() {
-                made(all)
+                Ok(all)
             } else {
                 Err(SchemaFault::SchemaSyntax {
                     line: line_of(text, offset_at(tokens, end, place)),
@@ -82,7 +84,7 @@ fn read_tokens(
     }
 }
 
-// The schema that the tokens at the front of a text say.
+// The definitions that the tokens at the front of a text say.
 #[tactic(auto, using(crate::proofs::Lines::left_from, dg_text::proofs::Small::are_small))]
 fn read_front(
     alloc: Global,
@@ -90,7 +92,7 @@ fn read_front(
     text: &str,
     tokens: &[Token],
     end: usize,
-) -> Result<Schema, SchemaFault>
+) -> Result<Draft, SchemaFault>
     requires size { length text.now ≤ 1048576 }
     requires cut { AreCut text.now tokens.now }
     requires end { end ≤ length text.now }
@@ -102,6 +104,17 @@ fn read_front(
     }
 }
 
+// The definitions of a text while they are read.
+fn read_draft(alloc: Global, text: &str) -> Result<Draft, SchemaFault>
+    requires { length text.now ≤ 1048576 }
+    ensures { Reads result (schema text.now) }
+{
+    match front(alloc, text.as_bytes()) {
+        Ok((tokens, end)) => read_front(alloc, &Words::new(), text, tokens.as_slice(), end),
+        Err(OutOfMemory) => Err(SchemaFault::OutOfMemory),
+    }
+}
+
 /// The definitions of a text, in its order.
 ///
 /// `SchemaSyntax` has the line of the first token that the grammar doesn't allow, of the name of a statement that is
@@ -110,8 +123,5 @@ pub fn read_schema(alloc: Global, text: &str) -> Result<Schema, SchemaFault>
     requires { length text.now ≤ 1048576 }
     ensures { Reads result (schema text.now) }
 {
-    match front(alloc, text.as_bytes()) {
-        Ok((tokens, end)) => read_front(alloc, &Words::new(), text, tokens.as_slice(), end),
-        Err(OutOfMemory) => Err(SchemaFault::OutOfMemory),
-    }
+    made(read_draft(alloc, text)?)
 }

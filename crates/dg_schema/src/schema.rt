@@ -1,9 +1,10 @@
-// Definitions with distinct names.
-ghost use Rattle.std.specs.Prelude.{◌≡◌, false, fold, [], ◌∷◌, ◌++◌, IfOk, OnOk, option_copied, string_bytes};
+// Definitions with distinct names, each of which can be written.
+ghost use Rattle.std.specs.Prelude.{◌≡◌, false, fold, [], ◌∷◌, ◌++◌, IfOk, OnOk, Ok, option_copied, string_bytes};
 ghost use Rattle.dg_schema.specs.Definitions.{definition_of, with_definitions, AreDistinct};
 ghost use Rattle.dg_schema.specs.Joined.{newest, renewed};
-ghost use Rattle.dg_schema.specs.Places.{IsIndexed};
-ghost use Rattle.dg_schema.specs.Texts.{schema_text};
+ghost use Rattle.dg_schema.specs.Readable.{AreReadable, IsSchema};
+ghost use Rattle.dg_schema.specs.Texts.{by_name, schema_text};
+ghost use Rattle.dg_schema.specs.Whole.{schema};
 
 use crate::draft::Draft;
 use crate::{PredDef, places, printing};
@@ -11,7 +12,8 @@ use dg_values::{Mem, OutOfMemory};
 use std::alloc::Global;
 use std::marker::Model;
 
-/// Definitions with distinct names. Contracts see them in the order in which they were declared.
+/// Definitions with distinct names, each of which can be written in the schema language. Contracts see them in the order in
+/// which they were declared.
 #[derive(Debug, Drop)]
 pub struct Schema {
     alloc: Global,
@@ -23,13 +25,13 @@ pub struct Schema {
 impl Model for Schema {
     ghost use Rattle.std.specs.Prelude.{List};
     ghost use Rattle.dg_schema.specs.declared.definition.PredDef.{PredDef};
-    ghost use Rattle.dg_schema.specs.Places.{IsIndexed};
+    ghost use Rattle.dg_schema.specs.Readable.{IsSchema};
 
     ghost Value = { List PredDef };
 
     ghost view = { λ s. s.definitions.items };
 
-    ghost invariant = { λ s. IsIndexed s.definitions.items s.by_name.items };
+    ghost invariant = { λ s. IsSchema s.definitions.items s.by_name.items };
 }
 
 // The newer definition of the same name, or else the older one.
@@ -74,9 +76,9 @@ impl Schema {
         }
     }
 
-    // Definitions with their places in order.
+    // Definitions that can be written, with their places in order.
     pub(crate) fn of_parts(alloc: Global, definitions: Vec<PredDef>, by_name: Vec<usize>) -> Schema
-        requires { IsIndexed definitions.items by_name.items }
+        requires { IsSchema definitions.items by_name.items }
         ensures { result ≡ definitions.items }
     {
         Schema {
@@ -86,19 +88,11 @@ impl Schema {
         }
     }
 
-    /// This one definition, which is let go where there is no memory for it.
-    pub fn single(alloc: Global, definition: PredDef) -> Mem<Schema>
-        ensures { IfOk result (λ schema. schema ≡ definition ∷ []) }
-    {
-        let mut draft = Draft::new(alloc);
-        draft.add(definition)?;
-        draft.into_schema()
-    }
-
     /// The definitions, in the order in which they were declared.
     pub fn definitions(&self) -> &[PredDef]
         ensures items { result.now ≡ self.now }
         ensures distinct { AreDistinct self.now }
+        ensures readable { AreReadable self.now }
     {
         self.definitions.as_slice()
     }
@@ -132,9 +126,11 @@ impl Schema {
         draft.into_schema()
     }
 
-    /// One line for each definition, in ascending order of the names, as the schema language has it.
+    /// One line for each definition, in ascending order of the names, as the schema language has it. It reads back as
+    /// these definitions in that order.
     pub fn text_of(&self) -> Mem<String>
-        ensures { IfOk result (λ text. string_bytes text ≡ schema_text self.now) }
+        ensures text { IfOk result (λ text. string_bytes text ≡ schema_text self.now) }
+        ensures back { IfOk result (λ text. schema (string_bytes text) ≡ Ok (by_name self.now)) }
     {
         let text = printing::lines_at(
             self.alloc,

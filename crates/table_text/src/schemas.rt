@@ -4,7 +4,7 @@ ghost use Rattle.std.specs.Prelude.{◌≤◌, length};
 use crate::MOST;
 use crate::pictures::{pictured, plain};
 use dg_schema::{PredDef, Schema, SchemaFault, read_schema};
-use dg_values::Mem;
+use dg_values::{Mem, OutOfMemory};
 use std::alloc::Global;
 use std::fmt::Write;
 use std::mem;
@@ -90,20 +90,30 @@ fn change(alloc: Global, held: &mut Held, name: &str, argument: &str) -> Mem<boo
 // The schema of a field, where it is one.
 fn schema_of(alloc: Global, field: &str) -> Mem<Option<Schema>> {
     let text = plain(alloc, field)?;
-    if text.len() > MOST {
-        return Ok(None);
-    }
-    Ok(read_schema(alloc, text.as_str()).ok())
+    read(alloc, text.as_str())
 }
 
-// The first definition of a field, by itself.
+// The first line that is printed of a field's schema, read by itself.
 fn single_of(alloc: Global, field: &str) -> Mem<Option<Schema>> {
     let Some(schema) = schema_of(alloc, field)? else {
         return Ok(None);
     };
-    match schema.definitions().first() {
+    let text = schema.text_of()?;
+    match text.split_once('\n') {
         None => Ok(None),
-        Some(definition) => Ok(Some(Schema::single(alloc, definition.copy(alloc)?)?)),
+        Some((line, _)) => read(alloc, line),
+    }
+}
+
+// The schema of a text, where it is one.
+fn read(alloc: Global, text: &str) -> Mem<Option<Schema>> {
+    if text.len() > MOST {
+        return Ok(None);
+    }
+    match read_schema(alloc, text) {
+        Ok(schema) => Ok(Some(schema)),
+        Err(SchemaFault::SchemaSyntax { .. }) => Ok(None),
+        Err(SchemaFault::OutOfMemory) => Err(OutOfMemory),
     }
 }
 
