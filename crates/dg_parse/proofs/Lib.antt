@@ -25,3 +25,8 @@ pub mod FieldsAgain
 pub mod BlocksAgain
 pub mod TokensFormed
 pub mod TextAgain
+pub mod WordsWritten
+pub mod Slashed
+pub mod FiltersWritten
+pub mod ArgumentsWritten
+pub mod FieldsWritten

@@ -17,4 +17,5 @@ pub mod Whole
 pub mod Depth
 pub mod Printed
 pub mod PrintedQuery
+pub mod Printing
 pub mod Laws
