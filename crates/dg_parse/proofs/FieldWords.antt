@@ -17,6 +17,7 @@ use Rattle.dg_parse.specs.Directives.{unmarked}
 use Rattle.dg_parse.specs.Keys.{edge_text, count_key, val_key, agg_key, is_key, is_alias}
 use Rattle.dg_parse.specs.Printed.{args_words, dir_words, edge_words}
 use Rattle.dg_parse.specs.PrintedQuery.{var_words, alias_words, braces_words, item_words, words_of_field, field_words}
+use Rattle.dg_parse.specs.Printing.{words_of_item}
 use Rattle.dg_text.specs.Spelling.{name_word, mark_word}
 use Rattle.dg_text.specs.Written.{Word, IsWord}
 use Rattle.dg_parse.proofs.ArgumentsAgain.{AreArgs}
@@ -25,10 +26,6 @@ use Rattle.dg_parse.proofs.Lists.{Items}
 use Rattle.dg_parse.proofs.NamesAgain.{IsPred}
 
 -- ---- the words by the item
-
--- an item as words
-abbrev pub words_of_item : QItem → List Word
-words_of_item = fold-QItem (List Word) (List Word) item_words words_of_field
 
 pub field_is : (f : QField) → field_words f ≡ var_words f.var ++ (alias_words f.alias ++ (words_of_item f.item ++ mark_word 44 ∷ []))
 field_is f = fold_out-QField (List Word) (List Word) item_words words_of_field f

@@ -27,13 +27,14 @@ use Rattle.dg_parse.specs.Keys.{aggregate_word, is_alias}
 use Rattle.dg_parse.specs.Names.{variable, any_variable, alias, any_alias}
 use Rattle.dg_parse.specs.Printed.{edge_words, args_words, dir_words, val_words}
 use Rattle.dg_parse.specs.PrintedQuery.{var_words, alias_words, field_words}
+use Rattle.dg_parse.specs.Printing.{words_of_item}
 use Rattle.dg_text.specs.Spelling.{name_word, at_word, mark_word}
 use Rattle.dg_parse.specs.Words.{aggregate_meant}
 use Rattle.dg_text.specs.Written.{Word, IsWord}
 use Rattle.dg_parse.proofs.Again.{Reads, AreWords, words_append, never, at, on, tok_from, behind, on_append}
 use Rattle.dg_parse.proofs.ArgumentsAgain.{is_open, args_read}
 use Rattle.dg_parse.proofs.DirectivesAgain.{SameOwner, bars_dirs, DirsAgain, ReadDirs, dirs_read}
-use Rattle.dg_parse.proofs.FieldWords.{words_of_item, field_is, Layer, layer_words, item_is, agg_layer, IsNew, edge_owner, AreBraces, IsEdge, IsLayer, IsAnyName, IsField, AreFields}
+use Rattle.dg_parse.proofs.FieldWords.{field_is, Layer, layer_words, item_is, agg_layer, IsNew, edge_owner, AreBraces, IsEdge, IsLayer, IsAnyName, IsField, AreFields}
 use Rattle.dg_parse.proofs.FieldWords as shown
 use Rattle.dg_parse.proofs.FixedWords.{fixed, sign}
 use Rattle.dg_parse.proofs.Lists.{Items, Repeats, repeated_reads}

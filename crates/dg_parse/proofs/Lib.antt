@@ -35,3 +35,8 @@ pub mod UpsertAgain
 pub mod NestedConditions
 pub mod NestedGroups
 pub mod NestedUpsert
+pub mod WordsWritten
+pub mod Slashed
+pub mod FiltersWritten
+pub mod ArgumentsWritten
+pub mod FieldsWritten

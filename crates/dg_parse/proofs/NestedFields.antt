@@ -31,7 +31,8 @@ use Rattle.dg_parse.specs.Names.{Defined, variable, any_variable, alias, any_ali
 use Rattle.dg_parse.specs.Printed.{in_round, edge_words, val_words, func_words, arg_words, args_words, filter_words, opts_words, dir_words}
 use Rattle.dg_parse.specs.PrintedQuery.{var_words, alias_words, field_words, root_words, block_words, query_words}
 use Rattle.dg_parse.specs.Words.{aggregate_meant, directive_meant}
-use Rattle.dg_parse.proofs.FieldWords.{words_of_item, field_is, Layer, layer_words, item_is}
+use Rattle.dg_parse.specs.Printing.{words_of_item}
+use Rattle.dg_parse.proofs.FieldWords.{field_is, Layer, layer_words, item_is}
 use Rattle.dg_parse.proofs.FieldWords as shown
 use Rattle.dg_parse.proofs.Lists.{Added, all_of}
 use Rattle.dg_parse.proofs.NestedFilters.{at_filter}

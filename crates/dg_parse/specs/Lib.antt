@@ -17,5 +17,6 @@ pub mod Whole
 pub mod Depth
 pub mod Printed
 pub mod PrintedQuery
+pub mod Printing
 pub mod Laws
 pub mod PrintedUpsert

@@ -23,6 +23,7 @@ mod listed;
 mod literals;
 mod names;
 mod options;
+mod printing;
 mod query;
 mod reading;
 mod tokens;

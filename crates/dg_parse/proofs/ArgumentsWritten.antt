@@ -1,0 +1,33 @@
+-- Arguments, options and directives that are written.
+use Rattle.std.proofs.Common.{◌≡◌, ℕ, ℤ, ◌<◌, List, [], ◌∷◌, ◌++◌, length, append_assoc, sym, ap, ◌∙◌, codes, arith}
+use Rattle.std.specs.Prelude.{Bool, flat_map}
+use Rattle.dg_text.specs.Spelling.{name_word, at_word, int_word, mark_word}
+use Rattle.dg_text.specs.Written.{Word, written}
+use Rattle.dg_parse.specs.Printed.{in_round, commas, arg_words, args_words, opt_words, opts_words, truth_text}
+use Rattle.dg_parse.specs.declared.query.QArg.{QArg}
+use Rattle.dg_parse.specs.declared.query.QOpt.{QOpt}
+use Rattle.dg_parse.specs.declared.query.QOpt.TheVariants as options
+use Rattle.dg_parse.proofs.WordsWritten.{written_both, in_round_written}
+
+pub args_written : (old : List ℕ) (all : List QArg) → 0 < length all → old ++ written (args_words all) ≡ ((old ++ codes "( ") ++ written (commas arg_words all)) ++ codes ") "
+args_written old [] some = absurd (omega (arith, some))
+args_written old (a ∷ more) some = in_round_written old (commas arg_words (a ∷ more))
+
+pub opts_written : (old : List ℕ) (all : List QOpt) → 0 < length all → old ++ written (opts_words all) ≡ ((old ++ codes "( ") ++ written (commas opt_words all)) ++ codes ") "
+opts_written old [] some = absurd (omega (arith, some))
+opts_written old (o ∷ more) some = in_round_written old (commas opt_words (o ∷ more))
+
+pub depth_written : (old : List ℕ) (n : ℤ) → old ++ written (opt_words (options.Depth n)) ≡ (old ++ codes "depth : ") ++ written (int_word n ∷ [])
+depth_written old n = sym (append_assoc old (codes "depth : ") (written (int_word n ∷ [])))
+
+pub again_written : (old : List ℕ) (b : Bool) → old ++ written (opt_words (options.Again b)) ≡ (old ++ codes "loop : ") ++ written (name_word (truth_text b) ∷ [])
+again_written old b = sym (append_assoc old (codes "loop : ") (written (name_word (truth_text b) ∷ [])))
+
+pub filter_written : (old : List ℕ) (ws : List Word) → old ++ written (at_word (codes "@filter") ∷ in_round ws) ≡ ((old ++ codes "@filter ( ") ++ written ws) ++ codes ") "
+filter_written old ws =
+    ap (λ (l : List ℕ). old ++ (codes "@filter ( " ++ l)) (written_both ws (mark_word 41 ∷ []))
+    ∙ sym (append_assoc old (codes "@filter ( ") (written ws ++ codes ") "))
+    ∙ sym (append_assoc (old ++ codes "@filter ( ") (written ws) (codes ") "))
+
+pub recurse_written : (old : List ℕ) (ws : List Word) → old ++ written (at_word (codes "@recurse") ∷ ws) ≡ (old ++ codes "@recurse ") ++ written ws
+recurse_written old ws = sym (append_assoc old (codes "@recurse ") (written ws))

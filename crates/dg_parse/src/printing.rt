@@ -1,0 +1,7 @@
+// Queries in their printed form: words, with a blank behind each. Each function adds to what is written so far.
+mod arguments;
+mod blocks;
+mod fields;
+mod filters;
+mod functions;
+mod words;
