@@ -5,17 +5,20 @@
 
 Tokens and statements are read by plain_machine.py. Queries, upsert blocks, their depth and the cases beside
 the grammar are read here, by recursive descent: a case notes the offset of the token that it refuses, and
-reading goes on. No line of it was taken from the crates or from what they print. It needs Python 3.9 or later.
+reading goes on. What is read of a query is its printed form: its words, with a blank behind each. No line of
+it was taken from the crates or from what they print. It needs Python 3.9 or later.
 """
 
 from __future__ import annotations
 
 import sys
 from collections.abc import Callable, Iterator
-from typing import Optional
+from typing import NamedTuple, Optional, TypeVar
 
 import plain_machine as plain
 from rows_text import KINDS, of_field, shown
+
+Said = TypeVar("Said")
 
 MOST = 1_048_576
 COMPARISONS = ("eq", "le", "lt", "ge", "gt")
@@ -25,7 +28,48 @@ AGGREGATES = ("min", "max", "sum")
 RESERVED = ("uid", "count", "val", *AGGREGATES, "as", "expand")
 DIRECTIVES = ("filter", "cascade", "normalize", "recurse")
 ARGUMENTS = ("first", "offset", "after", "orderasc", "orderdesc")
-SHORT = {"first": "first", "offset": "offset", "after": "after", "orderasc": "asc", "orderdesc": "desc"}
+ESCAPES = {'"': '\\"', "\\": "\\\\", "\n": "\\n", "\r": "\\r"}
+
+
+class Part(NamedTuple):
+    """A part of a filter or a condition, and how many `not` stand before it."""
+
+    nots: int
+    joint: str
+    parts: list[Part]
+    atom: str
+
+
+def words(*each: str) -> str:
+    """Words, with a blank behind each."""
+    return "".join(f"{word} " for word in each)
+
+
+def quoted(text: str) -> str:
+    return words('"' + "".join(ESCAPES.get(c, c) for c in text) + '"')
+
+
+def in_round(inner: str) -> str:
+    return words("(") + inner + words(")")
+
+
+def filter_words(part: Part, around: str) -> str:
+    """A filter in brackets, in an `or` or in an `and`, with no more brackets than it needs."""
+    nots = words("not") * part.nots
+    if not part.joint:
+        return nots + part.atom
+    inner = words(part.joint).join(filter_words(below, part.joint) for below in part.parts)
+    needs_none = ("(",) if part.joint == "or" else ("(", "or")
+    return inner if around in needs_none and not part.nots else nots + in_round(inner)
+
+
+def val_words(name: str) -> str:
+    return words("val") + in_round(words(name))
+
+
+def condition_text(part: Part) -> str:
+    nots = f"not^{part.nots} " if part.nots else ""
+    return nots + (f"{part.joint}({', '.join(map(condition_text, part.parts))})" if part.joint else part.atom)
 
 
 class Fault(Exception):
@@ -96,13 +140,13 @@ class QueryReader(plain.Reader):
         self.case(token.says in RESERVED, token.offset)
         return token.says
 
-    def edge(self) -> str:
+    def edge(self) -> list[str]:
         back = self.next().kind == "~"
         if back:
             self.take()
-        return ("~" if back else "") + self.predicate()
+        return (["~"] if back else []) + [self.predicate()]
 
-    def bracketed(self, read: Callable[[], str]) -> str:
+    def bracketed(self, read: Callable[[], Said]) -> Said:
         self.want("(")
         said = read()
         self.want(")")
@@ -112,6 +156,13 @@ class QueryReader(plain.Reader):
         self.word("val")
         return self.bracketed(self.name)
 
+    def by_commas(self, read: Callable[[], str]) -> str:
+        said = [read()]
+        while self.next().kind == ",":
+            self.take()
+            said.append(read())
+        return words(",").join(said)
+
     # ---- functions
 
     def node(self) -> str:
@@ -119,14 +170,10 @@ class QueryReader(plain.Reader):
         if token.kind not in ("uid", "name"):
             raise self.refuse(token)
         self.take()
-        return hex(int(token.says, 16)) if token.kind == "uid" else token.says
+        return words(hex(int(token.says, 16)) if token.kind == "uid" else token.says)
 
     def nodes(self) -> str:
-        nodes = [self.node()]
-        while self.next().kind == ",":
-            self.take()
-            nodes.append(self.node())
-        return " ".join(nodes)
+        return self.by_commas(self.node)
 
     def literal(self) -> str:
         token = self.next()
@@ -136,7 +183,7 @@ class QueryReader(plain.Reader):
             self.take()
         else:
             raise self.refuse(token)
-        return f' "{token.says}"'
+        return quoted(token.says)
 
     def literals(self, many: bool) -> str:
         first = self.next()
@@ -147,7 +194,7 @@ class QueryReader(plain.Reader):
         while self.next().kind == ",":
             self.take()
             offset = self.next().offset
-            said += self.literal()
+            said += words(",") + self.literal()
             self.case(not many, offset)
         if first.kind == "[":
             self.want("]")
@@ -156,11 +203,16 @@ class QueryReader(plain.Reader):
     def compared(self) -> str:
         if self.is_word("count"):
             self.take()
-            return f"count({self.bracketed(self.edge)})"
-        return f"val({self.val()})" if self.is_word("val") else self.predicate()
+            return words("count") + in_round(words(*self.bracketed(self.edge)))
+        return self.value_or_predicate()
 
-    def comma(self) -> None:
-        self.want(",")
+    def value_or_predicate(self) -> str:
+        if self.is_word("val"):
+            return val_words(self.val())
+        return words(self.predicate())
+
+    def comma(self) -> str:
+        return words(self.want(",").kind)
 
     def function(self, root: bool) -> str:
         offset = self.next().offset
@@ -169,64 +221,47 @@ class QueryReader(plain.Reader):
         self.want("(")
         said = self.inside(word)
         self.want(")")
-        return f"{word}({said})"
+        return words(word) + in_round(said)
 
     def inside(self, word: str) -> str:
         if word == "uid":
             return self.nodes()
         if word in COMPARISONS or word == "between":
-            of = self.compared()
-            self.comma()
+            of = self.compared() + self.comma()
             if word != "between":
                 return of + self.literals(word == "eq")
-            low = self.literal()
-            self.comma()
-            return of + low + self.literal()
+            return of + self.literal() + self.comma() + self.literal()
         if word == "has":
-            return self.edge()
+            return words(*self.edge())
         if word == "uid_in":
-            edge = self.edge()
-            self.comma()
-            return f"{edge} {self.nodes()}"
-        predicate = self.predicate()
-        self.comma()
+            return words(*self.edge()) + self.comma() + self.nodes()
+        predicate = words(self.predicate()) + self.comma()
         if word == "regexp":
-            token = self.want("regex")
-            fold = token.says.endswith("i")
-            pattern = token.says[1 : -2 if fold else -1].replace("\\/", "/")
-            return f'{predicate} "{pattern}"' + (" i" if fold else "")
-        return f'{predicate} "{self.want("quoted").says}"'
+            return predicate + words(self.want("regex").says)
+        return predicate + quoted(self.want("quoted").says)
 
     # ---- filters and conditions
 
-    def any_of(self, atom: Callable[[], str], joint: str) -> tuple[int, str]:
+    def any_of(self, atom: Callable[[], str], joint: str) -> Part:
         below = (lambda: self.negated(atom)) if joint == "and" else (lambda: self.any_of(atom, "and"))
         parts = [below()]
         while self.is_joint(joint):
             self.take()
             parts.append(below())
-        if len(parts) == 1:
-            return parts[0]
-        return 0, f"{joint}({', '.join(self.with_nots(part) for part in parts)})"
+        return parts[0] if len(parts) == 1 else Part(0, joint, parts, "")
 
-    def negated(self, atom: Callable[[], str]) -> tuple[int, str]:
+    def negated(self, atom: Callable[[], str]) -> Part:
         nots = 0
         while self.is_joint("not"):
             self.take()
             nots += 1
         if self.next().kind != "(":
-            return nots, atom()
-        self.take()
-        more, part = self.any_of(atom, "or")
-        self.want(")")
-        return nots + more, part
-
-    @staticmethod
-    def with_nots(part: tuple[int, str]) -> str:
-        return f"not^{part[0]} {part[1]}" if part[0] else part[1]
+            return Part(nots, "", [], atom())
+        part = self.bracketed(lambda: self.any_of(atom, "or"))
+        return part._replace(nots=nots + part.nots)
 
     def filter(self) -> str:
-        return self.with_nots(self.any_of(lambda: self.function(False), "or"))
+        return filter_words(self.any_of(lambda: self.function(False), "or"), "(")
 
     def length(self) -> str:
         word = self.word(*COMPARISONS)
@@ -244,19 +279,15 @@ class QueryReader(plain.Reader):
         word = self.word(*ARGUMENTS)
         self.want(":")
         if word in ("first", "offset"):
-            said = str(self.number())
+            said = words(str(self.number()))
         elif word == "after":
-            said = hex(int(self.want("uid").says, 16))
+            said = words(hex(int(self.want("uid").says, 16)))
         else:
-            said = f"val({self.val()})" if self.is_word("val") else self.predicate()
-        return f" {SHORT[word]}={said}"
+            said = self.value_or_predicate()
+        return words(word, ":") + said
 
     def arguments(self) -> str:
-        said = self.argument()
-        while self.next().kind == ",":
-            self.take()
-            said += self.argument()
-        return said
+        return self.by_commas(self.argument)
 
     def option(self, before: list[str]) -> str:
         offset = self.next().offset
@@ -264,15 +295,11 @@ class QueryReader(plain.Reader):
         self.case(word in before, offset)
         before.append(word)
         self.want(":")
-        return f" {word}=" + (str(self.number()) if word == "depth" else self.word("true", "false"))
+        return words(word, ":", str(self.number()) if word == "depth" else self.word("true", "false"))
 
     def options(self) -> str:
         before: list[str] = []
-        said = self.option(before)
-        while self.next().kind == ",":
-            self.take()
-            said += self.option(before)
-        return said
+        return in_round(self.by_commas(lambda: self.option(before)))
 
     def directives(self, around: Around, block: bool, as_offset: Optional[int]) -> str:
         said, seen = "", dict[str, int]()
@@ -288,9 +315,9 @@ class QueryReader(plain.Reader):
                 for offset in (as_offset, seen.get("cascade"), seen.get("normalize")):
                     self.case(True, offset)
             seen.setdefault(word, token.offset)
-            said += " @" + word
+            said += words("@" + word)
             if word == "filter":
-                said += " " + self.bracketed(self.filter)
+                said += in_round(self.bracketed(self.filter))
             if word == "recurse" and self.next().kind == "(":
                 said += self.bracketed(self.options)
         if block:
@@ -302,16 +329,16 @@ class QueryReader(plain.Reader):
     def variable(self) -> tuple[str, Optional[int]]:
         if self.next().kind == "name" and self.second().kind == "name" and self.second().says == "as":
             name = self.take().says
-            return f"{name} = ", self.take().offset
+            return words(name, "as"), self.take().offset
         return "", None
 
     def fields(self, around: Around) -> str:
-        said, keys = [], set[str]()
+        said, keys = "", set[str]()
         self.want("{")
         while self.next().kind in ("name", "~"):
-            said.append(self.field(around, keys))
+            said += self.field(around, keys) + words(",")
         self.want("}")
-        return f" {{{', '.join(said)}}}"
+        return words("{") + said + words("}")
 
     def field(self, around: Around, keys: set[str]) -> str:
         variable, as_offset = self.variable()
@@ -332,28 +359,28 @@ class QueryReader(plain.Reader):
         item = self.item(around, as_offset, offset, keyed)
         if self.next().kind == ",":
             self.take()
-        return variable + (f"{alias}: " if alias else "") + item
+        return variable + (words(alias, ":") if alias else "") + item
 
     def item(self, around: Around, as_offset: Optional[int], offset: int, keyed: Callable[[str], None]) -> str:
         if self.is_word("uid"):
             keyed(self.take().says)
-            return "uid"
+            return words("uid")
         if self.is_word("count"):
             self.take()
-            return self.counted(around, as_offset, offset, keyed)
+            return words("count") + in_round(self.counted(around, as_offset, offset, keyed))
         if self.is_word("val"):
             self.case(True, as_offset)
-            said = f"val({self.val()})"
-            keyed(said)
-            return said
+            name = self.val()
+            keyed(f"val({name})")
+            return val_words(name)
         if self.is_word(*AGGREGATES):
             word = self.take().says
-            said = f"{word}(val({self.bracketed(self.val)}))"
-            keyed(said)
-            return said
+            name = self.bracketed(self.val)
+            keyed(f"{word}(val({name}))")
+            return words(word) + in_round(val_words(name))
         edge = self.edge()
-        keyed(edge)
-        return edge + self.behind_edge(around)
+        keyed("".join(edge))
+        return words(*edge) + self.behind_edge(around)
 
     def counted(self, around: Around, as_offset: Optional[int], offset: int, keyed: Callable[[str], None]) -> str:
         self.want("(")
@@ -363,18 +390,18 @@ class QueryReader(plain.Reader):
             self.case(True, as_offset)
             self.case(around.recurse, offset)
             keyed("count")
-            return "count(uid)"
-        said = f"count({self.edge()})"
+            return words("uid")
+        edge = self.edge()
         self.want(")")
-        keyed(said)
-        return said
+        keyed(f"count({''.join(edge)})")
+        return words(*edge)
 
     def behind_edge(self, around: Around) -> str:
         said = ""
         if self.next().kind == "(":
             self.take()
             if self.is_word(*ARGUMENTS):
-                said += self.arguments()
+                said += in_round(self.arguments())
             self.want(")")
         said += self.directives(around, False, None)
         if self.next().kind == "{":
@@ -395,23 +422,22 @@ class QueryReader(plain.Reader):
         if has_func:
             self.take()
             self.want(":")
-            head = " " + self.function(True)
+            head = words("func", ":") + self.function(True)
             if self.next().kind == ",":
-                self.take()
-                head += self.arguments()
+                head += self.comma() + self.arguments()
         self.want(")")
         self.case(not has_func, as_offset)
         around = Around(has_func)
-        head += self.directives(around, True, as_offset)
-        return variable + name + head + self.fields(around)
+        directives = self.directives(around, True, as_offset)
+        return variable + words(name) + in_round(head) + directives + self.fields(around)
 
     def blocks(self) -> str:
-        said, names = [], set[str]()
+        said, names = "", set[str]()
         self.want("{")
         while self.next().kind == "name":
-            said.append(self.block(names))
+            said += self.block(names)
         self.want("}")
-        return "; ".join(said) + "."
+        return words("{") + said + words("}")
 
     def query(self) -> str:
         if self.is_word("query"):
@@ -461,10 +487,10 @@ class QueryReader(plain.Reader):
 
     def mutation(self) -> str:
         self.word("mutation")
-        said = " mutation"
+        said = "mutation"
         if self.next().kind == "at" and self.next().says == "if":
             self.take()
-            said += " if " + self.bracketed(lambda: self.with_nots(self.any_of(self.length, "or")))
+            said += " if " + condition_text(self.bracketed(lambda: self.any_of(self.length, "or")))
         said += ":"
         self.want("{")
         while self.is_word("set", "delete"):
@@ -474,7 +500,7 @@ class QueryReader(plain.Reader):
                 said += self.statement(deletes)
             self.want("}")
         self.want("}")
-        return said
+        return words(said)
 
     def upsert(self) -> str:
         self.word("upsert")

@@ -1,11 +1,27 @@
 // Upsert blocks, in one line.
-use crate::blocks::push_query;
-use crate::filters::push_nots;
-use crate::functions::op_word;
 use dg_nquad::{Node, Object, Statement};
-use dg_parse::{UCond, UMut, UPart, Upsert};
+use dg_parse::{CmpOp, UCond, UMut, UPart, Upsert};
 use dg_values::{Kind, Mem};
 use std::alloc::Global;
+
+fn op_word(op: CmpOp) -> &'static str {
+    match op {
+        CmpOp::Eq => "eq",
+        CmpOp::Le => "le",
+        CmpOp::Lt => "lt",
+        CmpOp::Ge => "ge",
+        CmpOp::Gt => "gt",
+    }
+}
+
+// How many `not` there are, where there are some.
+fn push_nots(alloc: Global, out: &mut String, nots: usize) -> Mem<()> {
+    if nots > 0 {
+        let text = format!(in alloc; "not^{nots} ")?;
+        out.push_str(text.as_str())?;
+    }
+    Ok(())
+}
 
 #[cycle(condition)]
 fn push_condition(alloc: Global, out: &mut String, condition: &UCond) -> Mem<()> {
@@ -76,7 +92,7 @@ fn statement_text(alloc: Global, statement: &Statement) -> Mem<String> {
 }
 
 fn push_mutation(alloc: Global, out: &mut String, mutation: &UMut) -> Mem<()> {
-    out.push_str(" mutation")?;
+    out.push_str("mutation")?;
     if let Some(condition) = &mutation.cond {
         out.push_str(" if ")?;
         push_condition(alloc, out, condition)?;
@@ -85,11 +101,12 @@ fn push_mutation(alloc: Global, out: &mut String, mutation: &UMut) -> Mem<()> {
     for statement in &mutation.mutation.statements {
         out.push_str(statement_text(alloc, statement)?.as_str())?;
     }
+    out.push_str(" ")?;
     Ok(())
 }
 
 pub(crate) fn push_upsert(alloc: Global, out: &mut String, upsert: &Upsert) -> Mem<()> {
-    push_query(alloc, out, &upsert.query)?;
+    out.push_str(upsert.query.text_of(alloc)?.as_str())?;
     for mutation in &upsert.muts {
         push_mutation(alloc, out, mutation)?;
     }

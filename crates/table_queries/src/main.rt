@@ -3,10 +3,7 @@
 //! stands as its picture.
 #![tactic(auto)]
 
-mod blocks;
 mod conditions;
-mod filters;
-mod functions;
 mod pictures;
 mod texts;
 

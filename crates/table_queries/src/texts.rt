@@ -2,14 +2,35 @@
 ghost use Rattle.std.specs.Prelude.{◌≤◌, length};
 
 use crate::MOST;
-use crate::blocks::push_query;
 use crate::conditions::push_upsert;
 use crate::pictures::{pictured, plain};
-use dg_parse::{DqlFault, parse, parse_upsert};
+use dg_parse::{DqlFault, Query, parse, parse_upsert};
 use dg_values::Mem;
 use std::alloc::Global;
 use std::fmt::Write;
 use std::str;
+
+// What a printed text is read as.
+fn again(alloc: Global, text: &str) -> Mem<String> {
+    if text.len() > MOST {
+        return Ok(String::from_str(alloc, "long")?);
+    }
+    match parse(alloc, text) {
+        Ok(query) => query.text_of(alloc),
+        Err(fault) => Ok(fault.to_string(alloc)?),
+    }
+}
+
+// A query in its printed form, and what this is read as where it isn't the same.
+fn printed(alloc: Global, query: &Query) -> Mem<String> {
+    let text = query.text_of(alloc)?;
+    let again = again(alloc, text.as_str())?;
+    if again.as_str() == text.as_str() {
+        Ok(text)
+    } else {
+        Ok(format!(in alloc; "{text}is read as {again}")?)
+    }
+}
 
 // The query of a text, or its fault.
 pub(crate) fn query(alloc: Global, text: &str) -> Mem<Option<String>>
@@ -17,9 +38,8 @@ pub(crate) fn query(alloc: Global, text: &str) -> Mem<Option<String>>
 {
     match parse(alloc, text) {
         Ok(query) => {
-            let mut out = String::new(alloc);
-            push_query(alloc, &mut out, &query)?;
-            Ok(Some(pictured(alloc, out.as_str())?))
+            let text = printed(alloc, &query)?;
+            Ok(Some(pictured(alloc, text.as_str())?))
         }
         Err(fault) => Ok(Some(fault.to_string(alloc)?)),
     }
