@@ -555,6 +555,20 @@ def row_cut(text: str) -> str:
     return " ".join([*(short(body[:end]) for end in range(1, len(body))), "end"])
 
 
+def row_changed(text: str) -> str:
+    """What is said of a text of ASCII with each byte from 1 to 127 at each place in turn."""
+    body = text.encode()
+    said = (short(body[:at] + bytes([byte]) + body[at + 1 :]) for at in range(len(body)) for byte in range(1, 128))
+    counts = {"r": 0, "T": 0, "D": 0, "S": 0}
+    texts = total = 0
+    for word in said:
+        texts += 1
+        counts[word[0]] += 1
+        if word != "read":
+            total = (total + texts * int(word[1:])) % 1_000_000_007
+    return f"{texts} texts, {counts['r']} read, T{counts['T']} D{counts['D']} S{counts['S']}, sum {total}"
+
+
 def row_repeat(fields: str) -> Optional[str]:
     front, piece, count, back = fields.split("\t")
     text = (of_field(front) + of_field(piece) * int(count) + of_field(back)).encode()
@@ -569,6 +583,7 @@ def answer(table: str, fields: str) -> Optional[str]:
         "query": lambda: row_text(text, False),
         "upsert": lambda: row_text(text, True),
         "cut": lambda: row_cut(text),
+        "changed": lambda: row_changed(text),
     }
     return tables[table]() if table in tables else None
 

@@ -1,6 +1,6 @@
 -- Arguments, options and directives that are written.
 use Rattle.std.proofs.Common.{◌≡◌, ℕ, ℤ, ◌<◌, List, [], ◌∷◌, ◌++◌, length, append_assoc, sym, ap, ◌∙◌, codes, arith}
-use Rattle.std.specs.Prelude.{Bool, flat_map}
+use Rattle.std.specs.Prelude.{Bool}
 use Rattle.dg_text.specs.Spelling.{name_word, at_word, int_word, mark_word}
 use Rattle.dg_text.specs.Written.{Word, written}
 use Rattle.dg_parse.specs.Printed.{in_round, commas, arg_words, args_words, opt_words, opts_words, truth_text}

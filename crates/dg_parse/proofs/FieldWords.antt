@@ -12,7 +12,7 @@ use Rattle.dg_parse.specs.declared.query.QField.{QField}
 use Rattle.dg_parse.specs.declared.query.QItem.{QItem}
 use Rattle.dg_parse.specs.declared.query.QItem.TheOpen.{QItem-F}
 use Rattle.dg_parse.specs.declared.query.QItem.TheViews.{out-QItem}
-use Rattle.dg_parse.specs.declared.query.QItem.TheFolds.{fold-QItem, map-QItem, fold_out-QItem, fold_out-QField}
+use Rattle.dg_parse.specs.declared.query.QItem.TheFolds.{map-QItem, fold_out-QItem, fold_out-QField}
 use Rattle.dg_parse.specs.Directives.{unmarked}
 use Rattle.dg_parse.specs.Keys.{edge_text, count_key, val_key, agg_key, is_key, is_alias}
 use Rattle.dg_parse.specs.Printed.{args_words, dir_words, edge_words}

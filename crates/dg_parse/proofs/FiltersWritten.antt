@@ -1,17 +1,16 @@
 -- Filters that are written, by what stands within them.
-use Rattle.std.proofs.Common.{◌≡◌, ℕ, zero, suc, ◌+◌, Bool, true, false, List, [], ◌∷◌, ◌++◌, map, append_assoc, refl, sym, ap, ◌∙◌, codes, arith}
+use Rattle.std.proofs.Common.{◌≡◌, ℕ, zero, suc, ◌+◌, true, false, List, [], ◌∷◌, ◌++◌, map, append_assoc, refl, sym, ap, ◌∙◌, codes, arith}
 use Rattle.std.specs.Prelude.{nat_eq, flat_map}
 use Rattle.std.proofs.lemmas.List.{replicate_more}
 use Rattle.std.proofs.lemmas.Bool.{true≢false, false≢true}
 use Rattle.std.proofs.lemmas.Bool.Decides.{nat_tests}
 use Rattle.dg_text.specs.Spelling.{name_word, mark_word}
 use Rattle.dg_text.specs.Written.{Word, written}
-use Rattle.dg_parse.specs.Printed.{Shown, in_round, between_words, nots, shown, shown_alone, shown_or, shown_and, func_words}
+use Rattle.dg_parse.specs.Printed.{Shown, in_round, between_words, nots, shown, shown_alone, shown_or, shown_and}
 use Rattle.dg_parse.specs.Printing.{words_in, or_is_bare, and_is_bare}
 use Rattle.dg_parse.specs.declared.printing.filters.Within.{Within}
 use Rattle.dg_parse.specs.declared.printing.filters.Within.TheVariants as within
 use Rattle.dg_parse.specs.declared.query.QFilter.{QFilter}
-use Rattle.dg_parse.specs.declared.query.QFunc.{QFunc}
 use Rattle.dg_parse.proofs.WordsWritten.{written_both, two_written}
 
 -- one "not" more

@@ -1,11 +1,11 @@
 -- Words that are written one after the other.
-use Rattle.std.proofs.Common.{◌≡◌, ℕ, ℤ, arith, length-take, ◌+◌, ◌<◌, Bool, false, List, [], ◌∷◌, ◌++◌, length, take, get_or, append_assoc, append-nil, refl, sym, ap, ◌∙◌, codes}
+use Rattle.std.proofs.Common.{◌≡◌, ℕ, ℤ, arith, length-take, ◌+◌, ◌<◌, Bool, false, List, [], ◌∷◌, ◌++◌, length, take, get_or, append_assoc, append-nil, sym, ap, ◌∙◌, codes}
 use Rattle.std.specs.Prelude.{flat_map}
 use Rattle.std.specs.Fmt.{digits, signed_decimal}
 use Rattle.std.proofs.lemmas.List.{take_more}
 use Rattle.std.proofs.lemmas.Grind.{flat_map-append}
 use Rattle.dg_text.specs.Quoting.{quoted_word}
-use Rattle.dg_text.specs.Spelling.{name_word, uid_word, uid_text, int_word, regex_word, slashed, flag_text, mark_word}
+use Rattle.dg_text.specs.Spelling.{name_word, uid_word, int_word, regex_word, slashed, flag_text, mark_word}
 use Rattle.dg_text.specs.Written.{Word, written}
 use Rattle.dg_parse.specs.Printed.{in_round, between_words}
 use Rattle.dg_parse.specs.Printing.{joint_before}
@@ -102,9 +102,9 @@ joined_more {X = X} w words_of xs i x old lt =
     let so_far : List ℕ = written (between_words w words_of (take i xs)) in
     let one : List ℕ = written (words_of (get_or xs i x)) in
     ap (λ (l : List ℕ). old ++ l) (
-      ap (λ (ys : List X). written (between_words w words_of ys)) (take_more xs i x lt)
-      ∙ between_push w words_of (take i xs) (get_or xs i x)
-      ∙ ap (λ (n : ℕ). (so_far ++ joint_before w.1 n) ++ one) many
+    ap (λ (ys : List X). written (between_words w words_of ys)) (take_more xs i x lt)
+    ∙ between_push w words_of (take i xs) (get_or xs i x)
+    ∙ ap (λ (n : ℕ). (so_far ++ joint_before w.1 n) ++ one) many
     )
     ∙ sym (append_assoc old (so_far ++ joint_before w.1 i) one)
     ∙ ap (λ (l : List ℕ). l ++ one) (sym (append_assoc old so_far (joint_before w.1 i)))

@@ -3,6 +3,7 @@
 //! stands as its picture.
 #![tactic(auto)]
 
+mod changes;
 mod conditions;
 mod pictures;
 mod texts;
@@ -60,6 +61,7 @@ fn answer_to_text(alloc: Global, table: &str, text: &str) -> Mem<Option<String>>
         "query" => texts::query(alloc, text),
         "upsert" => texts::upsert(alloc, text),
         "cut" => texts::cut(alloc, text),
+        "changed" => changes::changed(alloc, text),
         _ => Ok(None),
     }
 }

@@ -50,7 +50,13 @@ fn push_block(alloc: Global, out: &mut Str, block: &QBlock) -> Mem<()>
     ensures { OnOk result (out.new ≡ out.old ++ written (spec.block_words block.now)) }
 {
     push_var(out, &block.var)?;
-    push_head(alloc, out, block.name.as_str(), &block.func, block.args.as_slice())?;
+    push_head(
+        alloc,
+        out,
+        block.name.as_str(),
+        &block.func,
+        block.args.as_slice(),
+    )?;
     push_dirs(alloc, out, block.dirs.as_slice())?;
     push_braces(alloc, out, block.fields.as_slice())
 }

@@ -57,13 +57,7 @@ fn and_is_bare(within: Within, nots: usize) -> bool
 
 // Adds a function after so many `not`.
 #[tactic(auto, using(crate::proofs::FiltersWritten::func_written))]
-fn push_alone(
-    alloc: Global,
-    out: &mut Str,
-    within: Within,
-    nots: usize,
-    func: &QFunc,
-) -> Mem<()>
+fn push_alone(alloc: Global, out: &mut Str, within: Within, nots: usize, func: &QFunc) -> Mem<()>
     ensures { OnOk result (out.new ≡ out.old ++ written (words_in within (spec.shown_alone (spec.nots nots ++ spec.func_words func.now)))) }
 {
     push_nots(out, nots)?;

@@ -108,13 +108,7 @@ fn func_text(func: &QFunc) -> &'static str
         QFunc::Cmp { op, .. } => cmp_text(*op),
         QFunc::Between { .. } => "between",
         QFunc::Has(_) => "has",
-        QFunc::Terms { all, .. } => {
-            if *all {
-                "allofterms"
-            } else {
-                "anyofterms"
-            }
-        }
+        QFunc::Terms { all, .. } => { if *all { "allofterms" } else { "anyofterms" } }
         QFunc::Regexp { .. } => "regexp",
         QFunc::UidIn { .. } => "uid_in",
     }

@@ -1,6 +1,5 @@
-use Rattle.std.proofs.Common.{◌≡◌, ◌∷◌, ◌++◌, take}
+use Rattle.std.proofs.Common.{◌≡◌, ◌++◌, take}
 use Rattle.std.specs.Prelude.{flat_map}
-use Rattle.dg_text.specs.Spelling.{mark_word}
 use Rattle.dg_text.specs.Written.{written}
 use Rattle.dg_parse.specs.PrintedQuery.{block_words}
 use Rattle.dg_parse.proofs.printing.blocks.push_blocks.Given as goal
