@@ -572,7 +572,13 @@ def row_changed(text: str) -> str:
 def row_repeat(fields: str) -> Optional[str]:
     front, piece, count, back = fields.split("\t")
     text = (of_field(front) + of_field(piece) * int(count) + of_field(back)).encode()
-    return f"{short(text)} of {len(text)}" if len(text) <= MOST else None
+    if len(text) > MOST:
+        return None
+    try:
+        printed = read(text.decode(), False)
+    except Fault as fault:
+        return f"{fault.letter}{fault.offset} of {len(text)}"
+    return f"read of {len(text)}, printed in {len(printed.encode())}"
 
 
 def answer(table: str, fields: str) -> Optional[str]:

@@ -19,6 +19,9 @@ from typing import NamedTuple, Optional, Union
 import plain_machine as plain
 
 LONGEST_ANSWER = 16_777_216
+
+# The most bytes of a text that is read.
+LONGEST_TEXT = 1_048_576
 TYPES = {"int": "int", "string": "string", "bool": "boolean", "dateTime": "dateTime"}
 ESCAPES = str.maketrans({'"': '\\"', "\\": "\\\\", "\n": "\\n", "\r": "\\r"})
 KINDS = {"default": "Default", "int": "Int", "string": "Text", "bool": "Bool", "dateTime": "Time", "uid": "Uid"}
@@ -368,16 +371,32 @@ def written_object(said: Union[plain.Node, plain.Literal, None]) -> str:
     return f'"{said.text.translate(ESCAPES)}"{tag}'
 
 
-def row_written(text: str) -> str:
-    try:
-        all_said = plain.MutationReader(text).read()
-    except plain.Refusal as refusal:
-        return no_mutation(refusal)
+def printed_text(text: str) -> str:
+    """The printed text of what a text says: a group for each statement, and a blank behind each word."""
     groups = [
         f"{'delete' if said.deletes else 'set'} {{ {written_node(said.subject)} <{said.predicate}> {written_object(said.object)} . }} "
-        for said in all_said
+        for said in plain.MutationReader(text).read()
     ]
-    return shown(f"{{ {''.join(groups)}}} end")
+    return f"{{ {''.join(groups)}}} "
+
+
+def row_written(text: str) -> str:
+    try:
+        return shown(f"{printed_text(text)}end")
+    except plain.Refusal as refusal:
+        return no_mutation(refusal)
+
+
+def row_repeat(fields: str) -> str:
+    front, piece, count, back = fields.split("\t")
+    text = of_field(front) + of_field(piece) * int(count) + of_field(back)
+    size = len(text.encode())
+    if size > LONGEST_TEXT:
+        raise Unreadable
+    try:
+        return f"read of {size}, printed in {len(printed_text(text).encode())}"
+    except plain.Refusal as refusal:
+        return no_mutation(refusal)
 
 
 def front(text: bytes) -> str:
@@ -495,7 +514,7 @@ TEXTS: dict[str, Callable[[str], str]] = {
 
 
 def tables() -> dict[str, Callable[[str], str]]:
-    others = {"name": row_name, "next": row_next, "word": row_word, "deep": row_deep, "held": Held().row, "tree": row_tree, "size": row_size}
+    others = {"name": row_name, "next": row_next, "word": row_word, "deep": row_deep, "held": Held().row, "tree": row_tree, "size": row_size, "repeat": row_repeat}
     texts = {name: lambda field, row=row: row(of_field(field)) for name, row in TEXTS.items()}
     return {**others, **texts, "upsert": UPSERTS.__getitem__, "fault": FAULTS.__getitem__}
 

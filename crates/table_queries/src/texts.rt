@@ -125,10 +125,20 @@ fn push_times(text: &mut String, piece: &str, count: u32) -> Mem<()> {
     Ok(())
 }
 
+// How long the text is and what it is printed in, or what is wrong with it.
 fn whole_text(alloc: Global, text: &str) -> Mem<Option<String>> {
-    if text.len() > MOST {
+    let bytes = text.len();
+    if bytes > MOST {
         return Ok(None);
     }
-    let word = front_text(alloc, text)?;
-    Ok(Some(format!(in alloc; "{word} of {}", text.len())?))
+    match parse(alloc, text) {
+        Ok(query) => {
+            let printed = query.text_of(alloc)?;
+            Ok(Some(format!(in alloc; "read of {bytes}, printed in {}", printed.len())?))
+        }
+        Err(fault) => {
+            let word = short(alloc, fault)?;
+            Ok(Some(format!(in alloc; "{word} of {bytes}")?))
+        }
+    }
 }

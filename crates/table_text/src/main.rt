@@ -58,6 +58,7 @@ fn answer(alloc: Global, held: &mut Held, table: &str, fields: &str) -> Mem<Opti
         "tree" => trees::text(alloc, fields),
         "size" => trees::size(alloc, fields),
         "fault" => faults::fault(alloc, fields),
+        "repeat" => mutations::repeated(alloc, fields),
         _ => {
             let text = plain(alloc, fields)?;
             answer_to_text(alloc, table, text.as_str())

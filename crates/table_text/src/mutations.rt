@@ -2,7 +2,7 @@
 ghost use Rattle.std.specs.Prelude.{◌≤◌, length};
 
 use crate::MOST;
-use crate::pictures::pictured;
+use crate::pictures::{pictured, plain};
 use dg_nquad::block::Block;
 use dg_nquad::grammar::statements_at;
 use dg_nquad::{Node, NquadFault, Object, Statement, read_mutation};
@@ -35,6 +35,52 @@ pub(crate) fn written(alloc: Global, text: &str) -> Mem<Option<String>>
             let mut text = mutation.text_of(alloc)?;
             text.push_str("end")?;
             Ok(Some(pictured(alloc, text.as_str())?))
+        }
+        Err(fault) => Ok(Some(fault.to_string(alloc)?)),
+    }
+}
+
+// How long the printed text is of the mutation that a front, a piece so many times, and a back say.
+pub(crate) fn repeated(alloc: Global, fields: &str) -> Mem<Option<String>> {
+    let Some((front, rest)) = fields.split_once('\t') else {
+        return Ok(None);
+    };
+    let Some((piece, rest)) = rest.split_once('\t') else {
+        return Ok(None);
+    };
+    let Some((count, back)) = rest.split_once('\t') else {
+        return Ok(None);
+    };
+    let Ok(count) = count.parse::<u32>() else {
+        return Ok(None);
+    };
+    let mut text = plain(alloc, front)?;
+    push_times(&mut text, plain(alloc, piece)?.as_str(), count)?;
+    text.push_str(plain(alloc, back)?.as_str())?;
+    printed_in(alloc, text.as_str())
+}
+
+// A piece so many times, or as many as fit a text.
+fn push_times(text: &mut String, piece: &str, count: u32) -> Mem<()> {
+    for _ in 0..count {
+        if text.len() > MOST {
+            return Ok(());
+        }
+        text.push_str(piece)?;
+    }
+    Ok(())
+}
+
+// How long a text is, and its printed text.
+fn printed_in(alloc: Global, text: &str) -> Mem<Option<String>> {
+    let bytes = text.len();
+    if bytes > MOST {
+        return Ok(None);
+    }
+    match read_mutation(alloc, text) {
+        Ok(mutation) => {
+            let printed = mutation.text_of(alloc)?;
+            Ok(Some(format!(in alloc; "read of {bytes}, printed in {}", printed.len())?))
         }
         Err(fault) => Ok(Some(fault.to_string(alloc)?)),
     }
