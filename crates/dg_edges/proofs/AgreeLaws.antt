@@ -70,7 +70,7 @@ all_set schema goal u there (c ∷ cs) s l h =
     by true e h rest = all_right schema goal u (there_after schema u there c) cs s l.1 (set_right schema goal u there c l.0 e)
     by false e h rest = rest h
 
-same_bools : (a b : Bool) → (a ≡ b) ⊎ (a ≡ b → ⊥)
+pub same_bools : (a b : Bool) → (a ≡ b) ⊎ (a ≡ b → ⊥)
 same_bools true true = inl refl
 same_bools true false = inr (λ e. cc)
 same_bools false true = inr (λ e. cc)

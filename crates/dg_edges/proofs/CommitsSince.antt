@@ -7,13 +7,20 @@ use Rattle.std.specs.declared.cmp.Ordering.{Ordering}
 use Rattle.std.proofs.lemmas.List.Sums.{fold-append}
 use Rattle.std.proofs.lemmas.Grind.{common_steps}
 use Rattle.dg_values.specs.Ascending.{has, ascending}
-use Rattle.dg_sets.proofs.Sets.{all_with}
+use Rattle.dg_sets.proofs.Sets.{all_with, at, is_itself}
 use Rattle.dg_schema.specs.declared.definition.PredDef.{PredDef}
 use Rattle.dg_graph.specs.declared.change.Triple.{Triple}
 use Rattle.dg_graph.specs.declared.change.Change.{Change}
-use Rattle.dg_graph.specs.Graphs.{after_changes}
+use Rattle.dg_graph.specs.declared.change.Change.TheVariants as changes
+use Rattle.dg_graph.specs.Graphs.{after_changes, IsLawful}
+use Rattle.dg_graph.specs.Changes.{has_triple, there_after_all}
+use Rattle.dg_graph.proofs.GraphLaws.{known_by_triples, changes_by_triple, changes_ascend}
 use Rattle.dg_keys.specs.declared.conflict.ConflictKey.{ConflictKey}
 use Rattle.dg_keys.specs.declared.record.Record.{Record}
+use Rattle.dg_keys.specs.declared.key.Key.{Key}
+use Rattle.dg_keys.specs.declared.key.Key.TheVariants.{Data, Index, Reverse, Count, RCount}
+use Rattle.dg_keys.specs.Keys.{ops_at}
+use Rattle.dg_keys.specs.KeyOrder.{conflict_order}
 use Rattle.dg_keys.specs.Conflicts.{conflict_cmp}
 use Rattle.dg_oracle.specs.Commits as oracle
 use Rattle.dg_oracle.specs.Verdicts as judged
@@ -29,18 +36,21 @@ use Rattle.dg_zero.specs.Counters.{drawn, next, Started, ended, active_after, ac
 use Rattle.dg_zero.specs.Worlds.{World, world, world_after, world_at, schema, schema_at, graph_at, changes_of}
 use Rattle.dg_zero.specs.Places.{tablets}
 use Rattle.dg_zero.specs.Verdicts.{commits, commit_of, least_held, conflict, reason_by, verdict}
-use Rattle.dg_zero.specs.Listings.{conflict_keys}
-use Rattle.dg_zero.specs.Legal.{Fits, IsLegal}
+use Rattle.dg_zero.specs.Listings.{conflict_keys, keys_of_changes}
+use Rattle.dg_zero.specs.Legal.{Fits, FitsCommit, IsLegal}
 use Rattle.dg_zero.proofs.Histories.{next_push, active_push, commits_push, legal_push}
 use Rattle.dg_zero.proofs.LawsOfHistories.{kept_from, anyone, world_push, world_at_push, no_more, present_is_last}
 use Rattle.dg_zero.proofs.SchemasStay.{schemas_stay}
 use Rattle.dg_zero.proofs.LawfulGraphs.{graphs_are_lawful}
 use Rattle.dg_zero.proofs.Refusals.{named}
-use Rattle.dg_edges.specs.Deltas.{data_conflicts, deltas, IsPlain, AreFitting}
-use Rattle.dg_edges.specs.Laws.{Done, IsKeyed, HasNone, after_done, HistoriesDoAsChanges, HistoriesKeepParts}
-use Rattle.dg_edges.proofs.OfferLaws.{keys_stay, others_leave, lawful_done, commits_do_as_changes}
-use Rattle.dg_edges.proofs.PartsStay.{parts_stay}
-use Rattle.dg_edges.proofs.SoundParts.{each_ascending, sound_keyed}
+use Rattle.dg_edges.specs.Deltas.{gains, data_conflict, data_conflicts, IsPlain}
+use Rattle.dg_edges.specs.Laws.{Done, IsKeyed, HasNone, after_done, IsExactAtData, CommitsDoAsAsked, DataPartsAreExact, CommitsAreExact}
+use Rattle.dg_edges.proofs.AgreeLaws.{same_bools, all_apart}
+use Rattle.dg_edges.proofs.AnyKeys.{declared, data_found}
+use Rattle.dg_edges.proofs.EdgeLaws.{gains_none, other_same}
+use Rattle.dg_edges.proofs.OfferLaws.{others_leave, lawful_goal, lawful_done, differing_fits}
+use Rattle.dg_edges.proofs.PartsStay.{DifferAlike, both_alike, neither_changed, data_gains_alike}
+use Rattle.dg_edges.proofs.SoundParts.{each_ascending, sound_changes_fit, sound_keyed}
 
 -- ---- a clear verdict: no commit above the start has one of the keys
 
@@ -131,14 +141,14 @@ reached_begun n g e start l is d =
 later_key : (start ts : ℕ) (b : Bool) → start < ts → (nat_lt start ts && b) ≡ false → b ≡ false
 later_key start ts b lt e = let late : nat_lt start ts ≡ true = grind (arith, common_steps) in cc
 
-reached_committed : (n : ℕ) (g : List Entry) (author start other : ℕ) (preds : List (List ℕ)) (keys : List ConflictKey) (asked : List Change) (written : Record) → IsLegal n g → Fits n g author (Commit other preds keys asked written) → IsPlain (schema g) → IsReached g start → IsReached (g ++ (record { author = author; event = Commit other preds keys asked written }) ∷ []) start
-reached_committed n g author start other preds keys asked written l f plain r =
+reached_committed : (n : ℕ) (g : List Entry) (author start other : ℕ) (preds : List (List ℕ)) (keys : List ConflictKey) (asked : List Change) (written : Record) → IsLegal n g → Fits n g author (Commit other preds keys asked written) → IsReached g start → IsReached (g ++ (record { author = author; event = Commit other preds keys asked written }) ∷ []) start
+reached_committed n g author start other preds keys asked written l f r =
     let e : Entry = record { author = author; event = Commit other preds keys asked written } in
     let d : Done = record { changes = changes_of written.parts; keys = keys } in
     let now : world (g ++ e ∷ []) ≡ record { schema = schema g; graph = after_changes (schema g) (world g).graph (changes_of written.parts) } = world_push g e in
     let same = schemas_stay n g other author l f.active in
     let grown = next_push g e in
-    let its : IsKeyed (schema g) d = subst (λ (s : List PredDef). IsKeyed s d) same (sound_keyed (schema_at g other) (graph_at g other []) preds keys written.parts (subst IsPlain (sym same) plain) (graphs_are_lawful n g other l) f.sound) in
+    let its : IsKeyed (schema g) d = subst (λ (s : List PredDef). IsKeyed s d) same (sound_keyed (schema_at g other) (graph_at g other []) preds keys written.parts (graphs_are_lawful n g other l) f.sound) in
     record {
       drawn_is = omega (arith, r.drawn_is);
       others = r.others ++ d ∷ [];
@@ -172,7 +182,7 @@ was_active (s ∷ starts) other start author h = by (s.start == other) h (λ k. 
     by false h rest = keep ((s.start == start) && (s.author == author)) (is_active_of (ended starts other) start author) (is_active_of starts start author) rest h
 
 abbrev Reaches : ℕ → ℕ → List Entry → Type 0
-Reaches start author g = is_active_of (active g) start author ≡ true → IsPlain (schema g) → IsReached g start
+Reaches start author g = is_active_of (active g) start author ≡ true → IsReached g start
 
 -- begun before, or by this entry
 begun_or_before : (starts : List Started) (s : Started) (start author : ℕ) → is_active_of (starts ++ s ∷ []) start author ≡ true → (is_active_of starts start author ≡ true) ⊎ (start ≡ s.start)
@@ -187,71 +197,162 @@ begun_or_before (t ∷ starts) s start author h = by ((t.start == start) && (t.a
     by true h rest = inl refl
     by false h rest = rest h
 
-reached_after : (n : ℕ) (g : List Entry) (author start of : ℕ) (event : Event) → IsLegal n g → Fits n g author event → Reaches start of g → is_active_of (active_after (active g) author event) start of ≡ true → IsPlain (world_after (world g) event).schema → IsReached (g ++ (record { author = author; event = event }) ∷ []) start
-reached_after n g author start of (Begin begun) l f r h plain = by (begun_or_before (active g) (record { start = begun; author = author }) start of h)
+reached_after : (n : ℕ) (g : List Entry) (author start of : ℕ) (event : Event) → IsLegal n g → Fits n g author event → Reaches start of g → is_active_of (active_after (active g) author event) start of ≡ true → IsReached (g ++ (record { author = author; event = event }) ∷ []) start
+reached_after n g author start of (Begin begun) l f r h = by (begun_or_before (active g) (record { start = begun; author = author }) start of h)
   where
     by : (is_active_of (active g) start of ≡ true) ⊎ (start ≡ begun) → IsReached (g ++ (record { author = author; event = Begin begun }) ∷ []) start
-    by (inl k) = reached_still n g (record { author = author; event = Begin begun }) start f refl (r k plain)
+    by (inl k) = reached_still n g (record { author = author; event = Begin begun }) start f refl (r k)
     by (inr is) = reached_begun n g (record { author = author; event = Begin begun }) start (legal_push n g (record { author = author; event = Begin begun }) l f) (is ∙ f.0) refl
-reached_after n g author start of (Commit other preds keys asked written) l f r h plain =
-    reached_committed n g author start other preds keys asked written l f plain (r (was_active (active g) other start of h) plain)
-reached_after n g author start of (Refused other reason) l f r h plain = reached_still n g (record { author = author; event = Refused other reason }) start f refl (r (was_active (active g) other start of h) plain)
-reached_after n g author start of (End other) l f r h plain = reached_still n g (record { author = author; event = End other }) start f refl (r (was_active (active g) other start of h) plain)
-reached_after n g author start of (Alter begun newer written) l f r h plain =
+reached_after n g author start of (Commit other preds keys asked written) l f r h =
+    reached_committed n g author start other preds keys asked written l f (r (was_active (active g) other start of h))
+reached_after n g author start of (Refused other reason) l f r h = reached_still n g (record { author = author; event = Refused other reason }) start f refl (r (was_active (active g) other start of h))
+reached_after n g author start of (End other) l f r h = reached_still n g (record { author = author; event = End other }) start f refl (r (was_active (active g) other start of h))
+reached_after n g author start of (Alter begun newer written) l f r h =
     absurd (none (subst (λ (starts : List Started). is_active_of starts start of ≡ true) f.1.none_active h))
   where
     none : false ≡ true → ⊥
     none e = cc
-reached_after n g author start of event l f r h plain = reached_still n g (record { author = author; event = event }) start f refl (r h plain)
+reached_after n g author start of event l f r h = reached_still n g (record { author = author; event = event }) start f refl (r h)
 
-pub reached : (n : ℕ) (h : List Entry) (start author : ℕ) → IsLegal n h → is_active_of (active h) start author ≡ true → IsPlain (schema h) → IsReached h start
-reached n h start author l = kept_from n (λ a. Unit {0}) (Reaches start author) step [] h tt l (anyone h) (λ e plain. absurd (cc))
+pub reached : (n : ℕ) (h : List Entry) (start author : ℕ) → IsLegal n h → is_active_of (active h) start author ≡ true → IsReached h start
+reached n h start author l = kept_from n (λ a. Unit {0}) (Reaches start author) step [] h tt l (anyone h) (λ e. absurd (cc))
   where
     step : (g : List Entry) (e : Entry) → Unit {0} → IsLegal n g → Fits n g e.author e.event → Reaches start author g → Reaches start author (g ++ e ∷ [])
-    step g e o l f r h plain =
-        reached_after n g e.author start author e.event l f r (subst (λ (starts : List Started). is_active_of starts start author ≡ true) (active_push g e) h) (subst (λ (w : World). IsPlain w.schema) (world_push g e) plain)
+    step g e o l f r h =
+        reached_after n g e.author start author e.event l f r (subst (λ (starts : List Started). is_active_of starts start author ≡ true) (active_push g e) h)
 
--- ---- the law
+-- ---- the laws
 
--- none of the others has a key of the changes
-none_has : (h : List Entry) (start : ℕ) (keys : List ConflictKey) (others : List Done) → AllByRecursion (judged.HasNoClash conflict_cmp (commits h) start) keys → AllByRecursion (IsCommitted h start) others → AllByRecursion (λ d. AllByRecursion (λ key. has conflict_cmp d.keys key ≡ false) keys) others
-none_has h start keys others clear committed =
-    all_with (IsCommitted h start) (λ d. AllByRecursion (λ key. has conflict_cmp d.keys key ≡ false) keys) others
-    (λ d c. all_with (judged.HasNoClash conflict_cmp (commits h) start) (λ key. has conflict_cmp d.keys key ≡ false) keys (λ key none. c key none) clear)
-    committed
+-- a triple is left where no other commit has its key
+key_left : (schema : List PredDef) (graph : List Triple) (others : List Done) (u : Triple) → AllByRecursion (IsKeyed schema) others → AllByRecursion (λ d. has conflict_cmp d.keys (data_conflict schema u) ≡ false) others → has_triple graph u ≡ has_triple (after_done schema graph others) u
+key_left schema graph others u keyed none =
+    others_leave schema graph (changes.Set u ∷ []) others keyed
+    (all_with (λ d. has conflict_cmp d.keys (data_conflict schema u) ≡ false) (HasNone schema (changes.Set u ∷ [])) others (λ d e. (e, tt)) none)
+    u (rw (is_itself conflict_cmp conflict_order (data_conflict schema u)) refl)
 
--- what others committed since the start fits, names what it touches, and has no key of the changes
-record IsFree (schema : List PredDef) (graph : List Triple) (h : List Entry) (cs : List Change) : Type 0 where
-  others : List Done
-  keyed : AllByRecursion (IsKeyed schema) others
-  free : AllByRecursion (HasNone schema cs) others
-  graph_is : (world h).graph ≡ after_done schema graph others
+module _ (n : ℕ) (h : List Entry) (author start : ℕ) (preds : List (List ℕ)) (keys : List ConflictKey) (asked : List Change) (written : Record) (l : IsLegal n h) (f : FitsCommit h author start preds keys asked written) where
+  same : schema_at h start ≡ schema h
+  same = schemas_stay n h start author l f.active
 
-is_free : (n : ℕ) (h : List Entry) (author start : ℕ) (preds : List (List ℕ)) (keys : List ConflictKey) (cs : List Change) → IsLegal n h → IsPlain (schema_at h start) → is_active_of (active h) start author ≡ true → AreFitting (schema_at h start) cs → keys ≡ conflict_keys (schema_at h start) (graph_at h start []) cs → verdict h start preds keys ≡ None → IsFree (schema_at h start) (graph_at h start []) h cs
-is_free n h author start preds keys cs l plain on fit is clear =
-    let same : schema_at h start ≡ schema h = schemas_stay n h start author l on in
-    let r = reached n h start author l on (subst IsPlain same plain) in
-    let mine : keys ≡ ascending conflict_cmp (data_conflicts (schema_at h start) cs) = is ∙ keys_stay (schema_at h start) (graph_at h start []) cs plain fit in
-    let free : AllByRecursion (judged.HasNoClash conflict_cmp (commits h) start) (data_conflicts (schema_at h start) cs) =
-    each_ascending (judged.HasNoClash conflict_cmp (commits h) start) (data_conflicts (schema_at h start) cs) (subst (λ (ks : List ConflictKey). AllByRecursion (judged.HasNoClash conflict_cmp (commits h) start) ks) mine (none_clashes h start preds keys clear)) in
-    record {
-      others = r.others;
-      keyed = subst (λ (s : List PredDef). AllByRecursion (IsKeyed s) r.others) (sym same) r.keyed;
-      free = none_has h start (data_conflicts (schema_at h start) cs) r.others free r.committed;
-      graph_is = r.graph_is ∙ λ i. after_done (sym same i) (graph_at h start []) r.others;
-    }
+  since : IsReached h start
+  since = reached n h start author l f.active
 
-pub histories_do_as_changes : HistoriesDoAsChanges
-histories_do_as_changes n h author start preds keys cs l plain on fit is clear =
-    let same : schema_at h start ≡ schema h = schemas_stay n h start author l on in
-    let f = is_free n h author start preds keys cs l plain on fit is clear in
-    let law = commits_do_as_changes (schema_at h start) (graph_at h start []) cs f.others plain fit (graphs_are_lawful n h start l) f.keyed f.free in
-    (λ i. after_changes (sym same i) (f.graph_is i) cs) ∙ (law ∙ sym (λ i. after_changes (sym same i) (f.graph_is i) (changes_of (deltas (schema_at h start) (graph_at h start []) cs))))
+  keyed : AllByRecursion (IsKeyed (schema_at h start)) since.others
+  keyed = subst (λ (s : List PredDef). AllByRecursion (IsKeyed s) since.others) (sym same) since.keyed
 
-pub histories_keep_parts : HistoriesKeepParts
-histories_keep_parts n h author start preds keys cs l plain on fit is clear =
-    let same : schema_at h start ≡ schema h = schemas_stay n h start author l on in
-    let lawful = graphs_are_lawful n h start l in
-    let f = is_free n h author start preds keys cs l plain on fit is clear in
-    let law = parts_stay (schema_at h start) (graph_at h start []) (after_done (schema_at h start) (graph_at h start []) f.others) cs plain fit lawful (lawful_done (schema_at h start) (graph_at h start []) f.others f.keyed lawful) (others_leave (schema_at h start) (graph_at h start []) cs f.others f.keyed f.free) in
-    (λ i. deltas (sym same i) (f.graph_is i) cs) ∙ law
+  later_is : (world h).graph ≡ after_done (schema_at h start) (graph_at h start []) since.others
+  later_is = since.graph_is ∙ λ i. after_done (sym same i) (graph_at h start []) since.others
+
+  lawful : IsLawful (schema_at h start) (graph_at h start [])
+  lawful = graphs_are_lawful n h start l
+
+  lawful_later : IsLawful (schema_at h start) (after_done (schema_at h start) (graph_at h start []) since.others)
+  lawful_later = lawful_done (schema_at h start) (graph_at h start []) since.others keyed lawful
+
+  clear : AllByRecursion (judged.HasNoClash conflict_cmp (commits h) start) keys
+  clear = none_clashes h start preds keys f.clear
+
+  -- no key of what was asked for, nor of the parts, was committed since the start
+  asked_clear : AllByRecursion (judged.HasNoClash conflict_cmp (commits h) start) (keys_of_changes (schema_at h start) (graph_at h start []) asked)
+  asked_clear = each_ascending (judged.HasNoClash conflict_cmp (commits h) start) (keys_of_changes (schema_at h start) (graph_at h start []) asked) (subst (λ (ks : List ConflictKey). AllByRecursion (judged.HasNoClash conflict_cmp (commits h) start) ks) f.made_of.keys_are clear)
+
+  parts_clear : AllByRecursion (judged.HasNoClash conflict_cmp (commits h) start) (keys_of_changes (schema_at h start) (graph_at h start []) (changes_of written.parts))
+  parts_clear =
+      each_ascending (judged.HasNoClash conflict_cmp (commits h) start) (keys_of_changes (schema_at h start) (graph_at h start []) (changes_of written.parts))
+      (all_with (λ k. has conflict_cmp keys k ≡ true) (judged.HasNoClash conflict_cmp (commits h) start) (conflict_keys (schema_at h start) (graph_at h start []) (changes_of written.parts)) (λ k there. at conflict_cmp conflict_order (judged.HasNoClash conflict_cmp (commits h) start) keys k clear there) f.sound.keys_named)
+
+  -- so they are apart from each triple that others changed
+  apart_from : (cs : List Change) → AllByRecursion (judged.HasNoClash conflict_cmp (commits h) start) (keys_of_changes (schema_at h start) (graph_at h start []) cs) → (u : Triple) → (has_triple (graph_at h start []) u ≡ has_triple (after_done (schema_at h start) (graph_at h start []) since.others) u → ⊥) → has conflict_cmp (data_conflicts (schema_at h start) cs) (data_conflict (schema_at h start) u) ≡ false
+  apart_from cs none u differs = by (has conflict_cmp (data_conflicts (schema_at h start) cs) (data_conflict (schema_at h start) u)) refl
+    where
+      by : (v : Bool) → has conflict_cmp (data_conflicts (schema_at h start) cs) (data_conflict (schema_at h start) u) ≡ v → v ≡ false
+      by false e = refl
+      by true e =
+          let fit = differing_fits (schema_at h start) (graph_at h start []) (after_done (schema_at h start) (graph_at h start []) since.others) u lawful lawful_later differs in
+          let def = declared (schema_at h start) u fit in
+          let free = data_found (judged.HasNoClash conflict_cmp (commits h) start) (schema_at h start) (graph_at h start []) cs u def.0 def.1 none e in
+          absurd (differs (key_left (schema_at h start) (graph_at h start []) since.others u keyed (all_with (IsCommitted h start) (λ d. has conflict_cmp d.keys (data_conflict (schema_at h start) u) ≡ false) since.others (λ d c. c (data_conflict (schema_at h start) u) free) since.committed)))
+
+  -- each triple is after the one as after the other
+  alike_after : (u : Triple) → there_after_all (schema_at h start) u (has_triple (after_done (schema_at h start) (graph_at h start []) since.others) u) asked ≡ there_after_all (schema_at h start) u (has_triple (after_done (schema_at h start) (graph_at h start []) since.others) u) (changes_of written.parts)
+  alike_after u = by (same_bools (has_triple (graph_at h start []) u) (has_triple (after_done (schema_at h start) (graph_at h start []) since.others) u))
+    where
+      at_start : there_after_all (schema_at h start) u (has_triple (graph_at h start []) u) asked ≡ there_after_all (schema_at h start) u (has_triple (graph_at h start []) u) (changes_of written.parts)
+      at_start =
+          sym (changes_by_triple (schema_at h start) (graph_at h start []) asked u)
+          ∙ (ap (λ (g : List Triple). has_triple g u) (sym f.made_of.lead_alike) ∙ changes_by_triple (schema_at h start) (graph_at h start []) (changes_of written.parts) u)
+
+      by : (has_triple (graph_at h start []) u ≡ has_triple (after_done (schema_at h start) (graph_at h start []) since.others) u) ⊎ (has_triple (graph_at h start []) u ≡ has_triple (after_done (schema_at h start) (graph_at h start []) since.others) u → ⊥)
+          → there_after_all (schema_at h start) u (has_triple (after_done (schema_at h start) (graph_at h start []) since.others) u) asked ≡ there_after_all (schema_at h start) u (has_triple (after_done (schema_at h start) (graph_at h start []) since.others) u) (changes_of written.parts)
+      by (inl e) = subst (λ (b : Bool). there_after_all (schema_at h start) u b asked ≡ there_after_all (schema_at h start) u b (changes_of written.parts)) e at_start
+      by (inr differs) =
+          all_apart (schema_at h start) u (has_triple (after_done (schema_at h start) (graph_at h start []) since.others) u) asked (apart_from asked asked_clear u differs)
+          ∙ sym (all_apart (schema_at h start) u (has_triple (after_done (schema_at h start) (graph_at h start []) since.others) u) (changes_of written.parts) (apart_from (changes_of written.parts) parts_clear u differs))
+
+  do_alike : after_changes (schema_at h start) (after_done (schema_at h start) (graph_at h start []) since.others) asked ≡ after_changes (schema_at h start) (after_done (schema_at h start) (graph_at h start []) since.others) (changes_of written.parts)
+  do_alike =
+      known_by_triples (after_changes (schema_at h start) (after_done (schema_at h start) (graph_at h start []) since.others) asked) (after_changes (schema_at h start) (after_done (schema_at h start) (graph_at h start []) since.others) (changes_of written.parts))
+      (changes_ascend (schema_at h start) (after_done (schema_at h start) (graph_at h start []) since.others) asked lawful_later.ascend) (changes_ascend (schema_at h start) (after_done (schema_at h start) (graph_at h start []) since.others) (changes_of written.parts) lawful_later.ascend)
+      (λ u. changes_by_triple (schema_at h start) (after_done (schema_at h start) (graph_at h start []) since.others) asked u ∙ (alike_after u ∙ sym (changes_by_triple (schema_at h start) (after_done (schema_at h start) (graph_at h start []) since.others) (changes_of written.parts) u)))
+
+  -- a triple is gained or lost by the parts as it was at the start
+  differ_alike : (u : Triple) → DifferAlike (has_triple (graph_at h start []) u) (has_triple (after_changes (schema_at h start) (graph_at h start []) (changes_of written.parts)) u) (has_triple (after_done (schema_at h start) (graph_at h start []) since.others) u) (has_triple (after_changes (schema_at h start) (after_done (schema_at h start) (graph_at h start []) since.others) (changes_of written.parts)) u)
+  differ_alike u = by (same_bools (has_triple (graph_at h start []) u) (has_triple (after_done (schema_at h start) (graph_at h start []) since.others) u))
+    where
+      now : has_triple (after_changes (schema_at h start) (graph_at h start []) (changes_of written.parts)) u ≡ there_after_all (schema_at h start) u (has_triple (graph_at h start []) u) (changes_of written.parts)
+      now = changes_by_triple (schema_at h start) (graph_at h start []) (changes_of written.parts) u
+
+      then : has_triple (after_changes (schema_at h start) (after_done (schema_at h start) (graph_at h start []) since.others) (changes_of written.parts)) u ≡ there_after_all (schema_at h start) u (has_triple (after_done (schema_at h start) (graph_at h start []) since.others) u) (changes_of written.parts)
+      then = changes_by_triple (schema_at h start) (after_done (schema_at h start) (graph_at h start []) since.others) (changes_of written.parts) u
+
+      by : (has_triple (graph_at h start []) u ≡ has_triple (after_done (schema_at h start) (graph_at h start []) since.others) u) ⊎ (has_triple (graph_at h start []) u ≡ has_triple (after_done (schema_at h start) (graph_at h start []) since.others) u → ⊥)
+          → DifferAlike (has_triple (graph_at h start []) u) (has_triple (after_changes (schema_at h start) (graph_at h start []) (changes_of written.parts)) u) (has_triple (after_done (schema_at h start) (graph_at h start []) since.others) u) (has_triple (after_changes (schema_at h start) (after_done (schema_at h start) (graph_at h start []) since.others) (changes_of written.parts)) u)
+      by (inl e) =
+          let after : has_triple (after_changes (schema_at h start) (graph_at h start []) (changes_of written.parts)) u ≡ has_triple (after_changes (schema_at h start) (after_done (schema_at h start) (graph_at h start []) since.others) (changes_of written.parts)) u = now ∙ ((λ i. there_after_all (schema_at h start) u (e i) (changes_of written.parts)) ∙ sym then) in
+          both_alike (has_triple (graph_at h start []) u) (has_triple (after_changes (schema_at h start) (graph_at h start []) (changes_of written.parts)) u) (has_triple (after_done (schema_at h start) (graph_at h start []) since.others) u) (has_triple (after_changes (schema_at h start) (after_done (schema_at h start) (graph_at h start []) since.others) (changes_of written.parts)) u) e after
+      by (inr differs) =
+          let away = apart_from (changes_of written.parts) parts_clear u differs in
+          neither_changed (has_triple (graph_at h start []) u) (has_triple (after_changes (schema_at h start) (graph_at h start []) (changes_of written.parts)) u) (has_triple (after_done (schema_at h start) (graph_at h start []) since.others) u) (has_triple (after_changes (schema_at h start) (after_done (schema_at h start) (graph_at h start []) since.others) (changes_of written.parts)) u)
+          (sym (now ∙ all_apart (schema_at h start) u (has_triple (graph_at h start []) u) (changes_of written.parts) away))
+          (sym (then ∙ all_apart (schema_at h start) u (has_triple (after_done (schema_at h start) (graph_at h start []) since.others) u) (changes_of written.parts) away))
+
+  -- so a data key's list gains and loses what it did
+  data_alike : (p : List ℕ) (s : ℕ) → gains (schema_at h start) (graph_at h start []) (after_changes (schema_at h start) (graph_at h start []) (changes_of written.parts)) (Data p s) ≡ gains (schema_at h start) (after_done (schema_at h start) (graph_at h start []) since.others) (after_changes (schema_at h start) (after_done (schema_at h start) (graph_at h start []) since.others) (changes_of written.parts)) (Data p s)
+  data_alike p s =
+      let fit = sound_changes_fit (schema_at h start) (graph_at h start []) preds keys written.parts lawful f.sound in
+      data_gains_alike (schema_at h start) (graph_at h start []) (after_changes (schema_at h start) (graph_at h start []) (changes_of written.parts)) (after_done (schema_at h start) (graph_at h start []) since.others) (after_changes (schema_at h start) (after_done (schema_at h start) (graph_at h start []) since.others) (changes_of written.parts)) p s
+      lawful f.sound.lawful lawful_later (lawful_goal (schema_at h start) (after_done (schema_at h start) (graph_at h start []) since.others) (changes_of written.parts) fit lawful_later)
+      (λ o. differ_alike (record { s = s; p = p; o = o }))
+
+  -- the same in the present graph, under the present schema
+  at_present : (key : Key) → gains (schema_at h start) (after_done (schema_at h start) (graph_at h start []) since.others) (after_changes (schema_at h start) (after_done (schema_at h start) (graph_at h start []) since.others) (changes_of written.parts)) key ≡ gains (schema h) (world h).graph (after_changes (schema h) (world h).graph (changes_of written.parts)) key
+  at_present key = λ i. gains (same i) (sym later_is i) (after_changes (same i) (sym later_is i) (changes_of written.parts)) key
+
+  pub asked_does : after_changes (schema h) (world h).graph asked ≡ after_changes (schema h) (world h).graph (changes_of written.parts)
+  asked_does = (λ i. after_changes (sym same i) (later_is i) asked) ∙ (do_alike ∙ sym (λ i. after_changes (sym same i) (later_is i) (changes_of written.parts)))
+
+  pub data_exact : (p : List ℕ) (s : ℕ) → IsExactAtData h written.parts p s
+  data_exact p s = f.sound.parts_are.exact (Data p s) ∙ (data_alike p s ∙ at_present (Data p s))
+
+  -- a key of another kind lists nothing under a plain schema
+  other_exact : (key : Key) → IsPlain (schema h) → ((p : List ℕ) (s : ℕ) → key ≡ Data p s → ⊥) → ops_at written.parts key ≡ gains (schema h) (world h).graph (after_changes (schema h) (world h).graph (changes_of written.parts)) key
+  other_exact key plain other =
+      f.sound.parts_are.exact key
+      ∙ (gains_none (schema_at h start) (graph_at h start []) (after_changes (schema_at h start) (graph_at h start []) (changes_of written.parts)) key (other_same (schema_at h start) (graph_at h start []) (after_changes (schema_at h start) (graph_at h start []) (changes_of written.parts)) key (subst IsPlain (sym same) plain) other)
+      ∙ sym (gains_none (schema h) (world h).graph (after_changes (schema h) (world h).graph (changes_of written.parts)) key (other_same (schema h) (world h).graph (after_changes (schema h) (world h).graph (changes_of written.parts)) key plain other)))
+
+  pub all_exact : IsPlain (schema h) → (key : Key) → ops_at written.parts key ≡ gains (schema h) (world h).graph (after_changes (schema h) (world h).graph (changes_of written.parts)) key
+  all_exact plain (Data p s) = data_exact p s
+  all_exact plain (Index p t) = other_exact (Index p t) plain (λ q s e. cc)
+  all_exact plain (Reverse p o) = other_exact (Reverse p o) plain (λ q s e. cc)
+  all_exact plain (Count p k) = other_exact (Count p k) plain (λ q s e. cc)
+  all_exact plain (RCount p k) = other_exact (RCount p k) plain (λ q s e. cc)
+
+pub commits_do_as_asked : CommitsDoAsAsked
+commits_do_as_asked n h author start preds keys asked written l f = asked_does n h author start preds keys asked written l f
+
+pub data_parts_are_exact : DataPartsAreExact
+data_parts_are_exact n h author start preds keys asked written l f = data_exact n h author start preds keys asked written l f
+
+pub commits_are_exact : CommitsAreExact
+commits_are_exact n h author start preds keys asked written l plain f = all_exact n h author start preds keys asked written l f plain

@@ -4,6 +4,7 @@ pub mod AgreeLaws
 pub mod EdgeLaws
 pub mod OfferLaws
 pub mod PartsStay
+pub mod AnyKeys
 pub mod SoundParts
 pub mod CommitsSince
 pub mod BetweenLaws

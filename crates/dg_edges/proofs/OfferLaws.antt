@@ -36,7 +36,7 @@ use Rattle.dg_keys.specs.Conflicts.{conflict_cmp}
 use Rattle.dg_zero.specs.Listings.{listing, AreGainsAndLosses, triple_of, touched, keys_of_object, keys_of_token, keys_of_change, keys_of_changes, conflict_keys}
 use Rattle.dg_keys.specs.KeyOrder.{key_order, conflict_order}
 use Rattle.dg_edges.specs.Deltas.{parts_at, gains, data_key, data_keys, deltas, data_conflict, data_conflicts, preds_of, IsPlainDefinition, IsPlain, AreFitting}
-use Rattle.dg_edges.specs.Laws.{DeltasLead, KeysAre, OffersAreSound, ChangesDoAsParts, Done, IsKeyed, HasNone, after_done, OthersLeave, CommitsDoAsChanges}
+use Rattle.dg_edges.specs.Laws.{DeltasLead, KeysAre, OffersAreSound, OffersAreMade, ChangesDoAsParts, Done, IsKeyed, HasNone, after_done, OthersLeave, CommitsDoAsChanges}
 use Rattle.dg_edges.proofs.PartLaws.{all_parts, all_changes, changes_joined}
 use Rattle.dg_edges.proofs.AgreeLaws.{Leads, lead_there, all_apart}
 use Rattle.dg_edges.proofs.EdgeLaws.{plain_found, listed_by, keeps_list, keys_are, deltas_agree}
@@ -266,6 +266,9 @@ offers_are_sound schema graph cs some plain fit l =
       keys_named = subst (λ (ks : List ConflictKey). AllByRecursion (λ key. has conflict_cmp ks key ≡ true) (conflict_keys schema graph (changes_of (deltas schema graph cs)))) (sym mine) (subst (λ (ks : List ConflictKey). AllByRecursion (λ key. has conflict_cmp (ascending conflict_cmp (data_conflicts schema cs)) key ≡ true) ks) (sym its) (named schema graph cs (changes_of (deltas schema graph cs)) (deltas_keyed schema graph cs fit l)));
       preds_named = all_parts (λ part. has text_cmp (preds_of cs) (pred_of part.key) ≡ true) (gains schema graph (after_changes schema graph cs)) (data_keys cs) (λ key op os h e. has_more text_cmp text_order [] (map (λ c. (changed c).p) cs) (pred_of key) ∙ pred_named cs key (sym (keys_are cs key) ∙ h));
     }
+
+pub offers_are_made : OffersAreMade
+offers_are_made schema graph cs plain fit l = record { keys_are = refl; lead_alike = deltas_lead schema graph cs plain fit l }
 
 -- ---- at a later graph
 

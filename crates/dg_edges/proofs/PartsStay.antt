@@ -1,5 +1,5 @@
 -- On a later graph that agrees at the keys of changes, lists gain and lose by the changes what they did.
-use Rattle.std.proofs.Common.{◌≡◌, ℕ, Bool, true, false, not, List, fold, map, refl, subst, sym, ◌∙◌}
+use Rattle.std.proofs.Common.{◌≡◌, ℕ, Bool, true, false, not, List, Option, Some, None, fold, map, refl, subst, sym, ◌∙◌}
 use Rattle.std.specs.Prelude.{◌&&◌}
 use Rattle.dg_values.specs.Ascending.{Ascends, has, with_one}
 use Rattle.dg_values.specs.Order.{posting_cmp}
@@ -9,19 +9,21 @@ use Rattle.dg_sets.proofs.Sets.{one_list, has_passed, ascends_passed}
 use Rattle.dg_delta.specs.declared.op.Op.TheVariants.{Set, Del}
 use Rattle.dg_delta.specs.Ops.{op_cmp, missing, changes_between}
 use Rattle.dg_schema.specs.declared.definition.PredDef.{PredDef}
+use Rattle.dg_schema.specs.Definitions.{definition_of}
 use Rattle.dg_graph.specs.declared.change.Triple.{Triple}
 use Rattle.dg_graph.specs.declared.change.Change.{Change}
 use Rattle.dg_graph.specs.Graphs.{after_changes, IsLawful}
 use Rattle.dg_graph.specs.Changes.{has_triple, there_after_all}
 use Rattle.dg_graph.proofs.GraphLaws.{changes_by_triple}
+use Rattle.dg_graph.proofs.ObjectLaws.{objects_ascend}
 use Rattle.dg_keys.specs.declared.key.Key.{Key}
 use Rattle.dg_keys.specs.declared.key.Key.TheVariants as keys
 use Rattle.dg_keys.specs.Conflicts.{conflict_cmp}
-use Rattle.dg_zero.specs.Listings.{listing}
+use Rattle.dg_zero.specs.Listings.{listing, listing_by}
 use Rattle.dg_edges.specs.Deltas.{parts_at, gains, data_keys, data_conflict, data_conflicts, IsPlain, AreFitting}
 use Rattle.dg_edges.specs.Laws.{AgreeAt, PartsStay}
 use Rattle.dg_edges.proofs.AgreeLaws.{all_apart}
-use Rattle.dg_edges.proofs.EdgeLaws.{listed_by, listing_ascends, other_same, gains_none}
+use Rattle.dg_edges.proofs.EdgeLaws.{listed_by, other_same, gains_none}
 use Rattle.dg_edges.proofs.OfferLaws.{lawful_goal}
 
 -- ---- lists that differ alike
@@ -56,6 +58,29 @@ same_changes old new old' new' a b c d f =
     let gained = same_missing old new old' new' b d (λ o. (f o).gained) in
     λ i. fold (with_one op_cmp) (map Del (lost i)) (map Set (gained i))
 
+pub both_alike : (old new old' new' : Bool) → old ≡ old' → new ≡ new' → DifferAlike old new old' new'
+both_alike old new old' new' e f = record { lost = λ i. not (f i) && e i; gained = λ i. not (e i) && f i }
+
+pub neither_changed : (old new old' new' : Bool) → old ≡ new → old' ≡ new' → DifferAlike old new old' new'
+neither_changed old new old' new' e f = subst (λ (b : Bool). DifferAlike old b old' new') e (subst (λ (b : Bool). DifferAlike old old old' b) f (unchanged old old'))
+
+-- a data key's list gains and loses alike where each triple does
+data_ascends : (schema : List PredDef) (graph : List Triple) (p : List ℕ) (s : ℕ) → IsLawful schema graph → Ascends posting_cmp (listing schema graph (keys.Data p s))
+data_ascends schema graph p s l = by (definition_of schema p)
+  where
+    by : (d : Option PredDef) → Ascends posting_cmp (listing_by d graph (keys.Data p s))
+    by None = tt
+    by (Some def) = objects_ascend graph p s l.ascend
+
+pub data_gains_alike : (schema : List PredDef) (old new old' new' : List Triple) (p : List ℕ) (s : ℕ) → IsLawful schema old → IsLawful schema new → IsLawful schema old' → IsLawful schema new' → ((o : Posting) → DifferAlike (has_triple old (record { s = s; p = p; o = o })) (has_triple new (record { s = s; p = p; o = o })) (has_triple old' (record { s = s; p = p; o = o })) (has_triple new' (record { s = s; p = p; o = o }))) → gains schema old new (keys.Data p s) ≡ gains schema old' new' (keys.Data p s)
+data_gains_alike schema old new old' new' p s a b c d f =
+    same_changes (listing schema old (keys.Data p s)) (listing schema new (keys.Data p s)) (listing schema old' (keys.Data p s)) (listing schema new' (keys.Data p s))
+    (data_ascends schema old p s a) (data_ascends schema new p s b) (data_ascends schema old' p s c) (data_ascends schema new' p s d)
+    (λ o. both_ends (listed_by schema old p s o a) (listed_by schema new p s o b) (listed_by schema old' p s o c) (listed_by schema new' p s o d) (f o))
+  where
+    both_ends : {w x y z w' x' y' z' : Bool} → w' ≡ w → x' ≡ x → y' ≡ y → z' ≡ z → DifferAlike w x y z → DifferAlike w' x' y' z'
+    both_ends e f g h q = record { lost = (λ i. not (f i) && e i) ∙ (q.lost ∙ sym (λ i. not (h i) && g i)); gained = (λ i. not (e i) && f i) ∙ (q.gained ∙ sym (λ i. not (g i) && h i)) }
+
 -- ---- graphs that agree at the keys
 
 -- each triple
@@ -83,16 +108,8 @@ no_gains schema graph later cs k plain other =
 -- each key
 gains_stay : (schema : List PredDef) (graph later : List Triple) (cs : List Change) → IsPlain schema → AreFitting schema cs → IsLawful schema graph → IsLawful schema later → AgreeAt schema cs graph later → (k : Key) → gains schema graph (after_changes schema graph cs) k ≡ gains schema later (after_changes schema later cs) k
 gains_stay schema graph later cs plain fit l m agree (keys.Data p s) =
-    let then = lawful_goal schema graph cs fit l in
-    let now = lawful_goal schema later cs fit m in
-    same_changes (listing schema graph (keys.Data p s)) (listing schema (after_changes schema graph cs) (keys.Data p s)) (listing schema later (keys.Data p s)) (listing schema (after_changes schema later cs) (keys.Data p s))
-    (listing_ascends schema graph (keys.Data p s) plain l.ascend) (listing_ascends schema (after_changes schema graph cs) (keys.Data p s) plain then.ascend) (listing_ascends schema later (keys.Data p s) plain m.ascend) (listing_ascends schema (after_changes schema later cs) (keys.Data p s) plain now.ascend)
-    (λ o.
-    let u : Triple = record { s = s; p = p; o = o } in
-    subst (λ (b : Bool). DifferAlike b (has posting_cmp (listing schema (after_changes schema graph cs) (keys.Data p s)) o) (has posting_cmp (listing schema later (keys.Data p s)) o) (has posting_cmp (listing schema (after_changes schema later cs) (keys.Data p s)) o)) (sym (listed_by schema graph p s o l))
-    (subst (λ (b : Bool). DifferAlike (has_triple graph u) b (has posting_cmp (listing schema later (keys.Data p s)) o) (has posting_cmp (listing schema (after_changes schema later cs) (keys.Data p s)) o)) (sym (listed_by schema (after_changes schema graph cs) p s o then))
-    (subst (λ (b : Bool). DifferAlike (has_triple graph u) (has_triple (after_changes schema graph cs) u) b (has posting_cmp (listing schema (after_changes schema later cs) (keys.Data p s)) o)) (sym (listed_by schema later p s o m))
-    (subst (λ (b : Bool). DifferAlike (has_triple graph u) (has_triple (after_changes schema graph cs) u) (has_triple later u) b) (sym (listed_by schema (after_changes schema later cs) p s o now)) (triple_alike schema graph later cs u agree)))))
+    data_gains_alike schema graph (after_changes schema graph cs) later (after_changes schema later cs) p s l (lawful_goal schema graph cs fit l) m (lawful_goal schema later cs fit m)
+    (λ o. triple_alike schema graph later cs (record { s = s; p = p; o = o }) agree)
 gains_stay schema graph later cs plain fit l m agree (keys.Index p t) = no_gains schema graph later cs (keys.Index p t) plain (λ q s e. cc)
 gains_stay schema graph later cs plain fit l m agree (keys.Reverse p o) = no_gains schema graph later cs (keys.Reverse p o) plain (λ q s e. cc)
 gains_stay schema graph later cs plain fit l m agree (keys.Count p n) = no_gains schema graph later cs (keys.Count p n) plain (λ q s e. cc)

@@ -20,10 +20,12 @@ use Rattle.dg_keys.specs.KeyOrder.{key_order, conflict_order}
 use Rattle.dg_keys.specs.Conflicts.{conflict_cmp}
 use Rattle.dg_zero.specs.Worlds.{changes_at, changes_of}
 use Rattle.dg_zero.specs.Offers.{IsSound}
-use Rattle.dg_edges.specs.Deltas.{data_conflicts, IsPlain, AreFitting}
+use Rattle.dg_zero.specs.Listings.{keys_of_changes}
+use Rattle.dg_edges.specs.Deltas.{AreFitting}
 use Rattle.dg_edges.specs.Laws.{IsKeyed}
 use Rattle.dg_edges.proofs.PartLaws.{all_joined}
-use Rattle.dg_edges.proofs.OfferLaws.{IsOfDifference, key_leads, differing_fits, keys_stay}
+use Rattle.dg_edges.proofs.AnyKeys.{data_among}
+use Rattle.dg_edges.proofs.OfferLaws.{IsOfDifference, key_leads, differing_fits}
 
 -- ---- a part's operations are those at its key
 
@@ -81,10 +83,10 @@ pub each_ascending : (P : ConflictKey → Type 0) (ks : List ConflictKey) → Al
 each_ascending P ks a =
     from_each conflict_cmp conflict_order P ks (λ key h. at conflict_cmp conflict_order P (ascending conflict_cmp ks) key a (has_more conflict_cmp conflict_order [] ks key ∙ h))
 
-pub sound_keyed : (schema : List PredDef) (graph : List Triple) (preds : List (List ℕ)) (ks : List ConflictKey) (parts : List Part) → IsPlain schema → IsLawful schema graph → IsSound schema graph preds ks parts → IsKeyed schema (record { changes = changes_of parts; keys = ks })
-sound_keyed schema graph preds ks parts plain l s =
+pub sound_keyed : (schema : List PredDef) (graph : List Triple) (preds : List (List ℕ)) (ks : List ConflictKey) (parts : List Part) → IsLawful schema graph → IsSound schema graph preds ks parts → IsKeyed schema (record { changes = changes_of parts; keys = ks })
+sound_keyed schema graph preds ks parts l s =
     let fit = sound_changes_fit schema graph preds ks parts l s in
     record {
       fitting = fit;
-      named = each_ascending (λ key. has conflict_cmp ks key ≡ true) (data_conflicts schema (changes_of parts)) (subst (λ (keys : List ConflictKey). AllByRecursion (λ key. has conflict_cmp ks key ≡ true) keys) (keys_stay schema graph (changes_of parts) plain fit) s.keys_named);
+      named = data_among (λ key. has conflict_cmp ks key ≡ true) schema graph (changes_of parts) fit (each_ascending (λ key. has conflict_cmp ks key ≡ true) (keys_of_changes schema graph (changes_of parts)) s.keys_named);
     }

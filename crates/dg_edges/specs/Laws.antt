@@ -2,21 +2,25 @@
 use Rattle.std.specs.Prelude.{◌≡◌, ◌≢◌, ℕ, true, false, List, [], None, fold, Result, Ok}
 use Rattle.std.specs.List.{AllByRecursion}
 use Rattle.dg_values.specs.Ascending.{ascending, has}
+use Rattle.dg_delta.specs.Ops.{changes_between}
 use Rattle.dg_schema.specs.declared.definition.PredDef.{PredDef}
 use Rattle.dg_graph.specs.declared.change.Triple.{Triple}
 use Rattle.dg_graph.specs.declared.change.Change.{Change}
 use Rattle.dg_graph.specs.Graphs.{after_changes, IsLawful}
 use Rattle.dg_graph.specs.Changes.{has_triple, AllFit}
 use Rattle.dg_keys.specs.declared.conflict.ConflictKey.{ConflictKey}
+use Rattle.dg_keys.specs.declared.key.Key.TheVariants.{Data}
 use Rattle.dg_keys.specs.declared.record.Part.{Part}
-use Rattle.dg_zero.specs.Worlds.{changes_of, world, schema, schema_at, graph_at}
+use Rattle.dg_keys.specs.declared.record.Record.{Record}
+use Rattle.dg_keys.specs.Keys.{ops_at}
+use Rattle.dg_zero.specs.Worlds.{changes_of, world, schema}
 use Rattle.dg_keys.specs.Conflicts.{conflict_cmp}
-use Rattle.dg_zero.specs.Listings.{AreGainsAndLosses, conflict_keys}
+use Rattle.dg_zero.specs.Listings.{AreGainsAndLosses, conflict_keys, listing}
 use Rattle.dg_zero.specs.declared.entry.Entry.{Entry}
-use Rattle.dg_zero.specs.Counters.{active, is_active_of}
-use Rattle.dg_zero.specs.Verdicts.{verdict}
-use Rattle.dg_zero.specs.Legal.{IsLegal}
-use Rattle.dg_zero.specs.Offers.{IsSound}
+use Rattle.dg_zero.specs.declared.entry.Event.TheVariants.{Commit}
+use Rattle.dg_zero.specs.Exact.{IsExactNow}
+use Rattle.dg_zero.specs.Legal.{FitsCommit, IsLegal}
+use Rattle.dg_zero.specs.Offers.{IsSound, IsMadeOf}
 use Rattle.dg_nquad.specs.declared.mutation.Statement.{Statement}
 use Rattle.dg_edges.specs.declared.edge.Edge.{Edge}
 use Rattle.dg_edges.specs.declared.fault.EdgeFault.{EdgeFault}
@@ -39,6 +43,10 @@ KeysAre = (schema : List PredDef) (graph : List Triple) (changes : List Change) 
 -- an offer of the parts and keys of one or more changes is sound
 abbrev pub OffersAreSound : Type 0
 OffersAreSound = (schema : List PredDef) (graph : List Triple) (changes : List Change) → changes ≢ [] → IsPlain schema → AreFitting schema changes → IsLawful schema graph → IsSound schema graph (preds_of changes) (conflict_keys schema graph changes) (deltas schema graph changes)
+
+-- and made of the changes
+abbrev pub OffersAreMade : Type 0
+OffersAreMade = (schema : List PredDef) (graph : List Triple) (changes : List Change) → IsPlain schema → AreFitting schema changes → IsLawful schema graph → IsMadeOf schema graph changes (conflict_keys schema graph changes) (deltas schema graph changes)
 
 -- two graphs have the same triples of these keys
 abbrev pub AgreeAt : List PredDef → List Change → List Triple → List Triple → Type 0
@@ -78,14 +86,21 @@ OthersLeave = (schema : List PredDef) (graph : List Triple) (changes : List Chan
 abbrev pub CommitsDoAsChanges : Type 0
 CommitsDoAsChanges = (schema : List PredDef) (graph : List Triple) (changes : List Change) (others : List Done) → IsPlain schema → AreFitting schema changes → IsLawful schema graph → AllByRecursion (IsKeyed schema) others → AllByRecursion (HasNone schema changes) others → after_changes schema (after_done schema graph others) changes ≡ after_changes schema (after_done schema graph others) (changes_of (deltas schema graph changes))
 
--- in a legal history, an active start under a plain schema: where no key of changes was committed since, the parts that
--- were made of them at the start do on the present graph what the changes do
-abbrev pub HistoriesDoAsChanges : Type 0
-HistoriesDoAsChanges = (n : ℕ) (history : List Entry) (author start : ℕ) (preds : List (List ℕ)) (keys : List ConflictKey) (changes : List Change) → IsLegal n history → IsPlain (schema_at history start) → is_active_of (active history) start author ≡ true → AreFitting (schema_at history start) changes → keys ≡ conflict_keys (schema_at history start) (graph_at history start []) changes → verdict history start preds keys ≡ None → after_changes (schema history) (world history).graph changes ≡ after_changes (schema history) (world history).graph (changes_of (deltas (schema_at history start) (graph_at history start []) changes))
+-- in a legal history, what a commit that fits asked for does on the present graph what its data parts do
+abbrev pub CommitsDoAsAsked : Type 0
+CommitsDoAsAsked = (n : ℕ) (history : List Entry) (author start : ℕ) (preds : List (List ℕ)) (keys : List ConflictKey) (asked : List Change) (written : Record) → IsLegal n history → FitsCommit history author start preds keys asked written → after_changes (schema history) (world history).graph asked ≡ after_changes (schema history) (world history).graph (changes_of written.parts)
 
--- and they are what lists gain and lose by the changes in the present graph
-abbrev pub HistoriesKeepParts : Type 0
-HistoriesKeepParts = (n : ℕ) (history : List Entry) (author start : ℕ) (preds : List (List ℕ)) (keys : List ConflictKey) (changes : List Change) → IsLegal n history → IsPlain (schema_at history start) → is_active_of (active history) start author ≡ true → AreFitting (schema_at history start) changes → keys ≡ conflict_keys (schema_at history start) (graph_at history start []) changes → verdict history start preds keys ≡ None → deltas (schema history) (world history).graph changes ≡ deltas (schema_at history start) (graph_at history start []) changes
+-- at a data key, the parts are what the list gains and loses by them in the present graph
+abbrev pub IsExactAtData : List Entry → List Part → List ℕ → ℕ → Type 0
+IsExactAtData history parts p s = ops_at parts (Data p s) ≡ changes_between (listing (schema history) (world history).graph (Data p s)) (listing (schema history) (after_changes (schema history) (world history).graph (changes_of parts)) (Data p s))
+
+-- so they are at each data key, for a commit that fits
+abbrev pub DataPartsAreExact : Type 0
+DataPartsAreExact = (n : ℕ) (history : List Entry) (author start : ℕ) (preds : List (List ℕ)) (keys : List ConflictKey) (asked : List Change) (written : Record) → IsLegal n history → FitsCommit history author start preds keys asked written → (p : List ℕ) (s : ℕ) → IsExactAtData history written.parts p s
+
+-- and at each key of any kind, where no definition has an index, reverse or count
+abbrev pub CommitsAreExact : Type 0
+CommitsAreExact = (n : ℕ) (history : List Entry) (author start : ℕ) (preds : List (List ℕ)) (keys : List ConflictKey) (asked : List Change) (written : Record) → IsLegal n history → IsPlain (schema history) → FitsCommit history author start preds keys asked written → IsExactNow history (Commit start preds keys asked written)
 
 -- what a sound offer's data parts put in fits the schema, whatever its other keys; so they keep a later graph lawful
 abbrev pub SoundFits : Type 0

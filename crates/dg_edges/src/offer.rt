@@ -2,7 +2,7 @@
 ghost use Rattle.std.specs.Prelude.{◌≡◌, ◌≢◌, [], IfOk};
 ghost use Rattle.dg_graph.specs.Graphs.{IsLawful};
 ghost use Rattle.dg_zero.specs.Listings.{conflict_keys};
-ghost use Rattle.dg_zero.specs.Offers.{IsSound};
+ghost use Rattle.dg_zero.specs.Offers.{IsSound, IsMadeOf};
 ghost use Rattle.dg_edges.specs.Deltas.{deltas, preds_of, IsPlain, AreFitting};
 
 use crate::{conflict_keys, deltas_of, preds_of};
@@ -12,8 +12,8 @@ use dg_zero::Offer;
 use std::alloc::Global;
 use std::sync::ledger::Ledger;
 
-/// The offer to commit changes of a transaction with this start, which saw the graph of the snapshot there. It is
-/// sound where there is a change. The changes are copied. The error is want of memory.
+/// The offer to commit changes of a transaction with this start, which saw the graph of the snapshot there. It is made of
+/// them, and sound where there is a change. The changes are copied. The error is want of memory.
 pub fn offer_of<S: Snapshot, L: Ledger>(
     alloc: Global,
     snap: &S,
@@ -30,6 +30,7 @@ pub fn offer_of<S: Snapshot, L: Ledger>(
     ensures parts { IfOk result (λ offer. offer.parts ≡ deltas (S.declared snap.now) (S.graph snap.now) changes.now) }
     ensures changes { IfOk result (λ offer. offer.changes ≡ changes.now) }
     ensures sound { changes.now ≢ [] → IfOk result (λ offer. IsSound (S.declared snap.now) (S.graph snap.now) offer.preds offer.keys offer.parts) }
+    ensures made_of { IfOk result (λ offer. IsMadeOf (S.declared snap.now) (S.graph snap.now) offer.changes offer.keys offer.parts) }
 {
     let asked = List::from_vec(copies(alloc, changes)?);
     let preds = List::from_vec(preds_of(alloc, changes)?);

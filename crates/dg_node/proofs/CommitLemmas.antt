@@ -1,5 +1,5 @@
 -- Events that end transactions, and what the verdict on a transaction says to the machine.
-use Rattle.std.proofs.Common.{◌≡◌, ℕ, ◌<◌, List, [], ◌∷◌, ◌++◌, Option, Some, None, refl, ap, subst, sym, ◌∙◌}
+use Rattle.std.proofs.Common.{◌≡◌, ℕ, ◌<◌, ◌^◌, List, [], ◌∷◌, ◌++◌, Option, Some, None, refl, ap, subst, sym, ◌∙◌}
 use Rattle.std.specs.Prelude.{slice_get, option_map}
 use Rattle.std.specs.Option.{option_map_or}
 use Rattle.dg_schema.specs.declared.definition.PredDef.{PredDef}
@@ -15,15 +15,14 @@ use Rattle.dg_zero.specs.declared.entry.Reason.{Reason}
 use Rattle.dg_zero.specs.declared.entry.Reason.TheVariants as reasons
 use Rattle.dg_zero.specs.declared.entry.Event.TheVariants.{Begin, Refused, End, Lease, Look}
 use Rattle.dg_zero.specs.declared.offer.Offer.{Offer}
+use Rattle.dg_zero.specs.Counters.{next}
 use Rattle.dg_zero.specs.Listings.{conflict_keys}
 use Rattle.dg_zero.specs.States.{Zero, commit_of}
 use Rattle.dg_zero.specs.Verdicts.{conflict, commits}
 use Rattle.dg_zero.specs.Verdicts as zeros
 use Rattle.dg_zero.specs.Worlds.{world, schema, schema_at, graph_at, changes_of}
 use Rattle.dg_zero.proofs.Refusals.{verdict_where_idle}
-use Rattle.dg_zero.proofs.SchemasStay.{schemas_stay}
-use Rattle.dg_edges.specs.Deltas.{AreFitting, IsPlain}
-use Rattle.dg_edges.proofs.CommitsSince.{histories_do_as_changes}
+use Rattle.dg_edges.proofs.CommitsSince.{commits_do_as_asked}
 use Rattle.dg_node.specs.declared.engine.Opened.{Opened}
 use Rattle.dg_node.specs.Schemas.{Alter}
 use Rattle.dg_node.specs.Schemas as machines
@@ -98,8 +97,9 @@ module _ (z : Zero) (os before after : List Opened) (o : Opened) (k : IsKept z o
   opened : IsOpened z.history o
   opened = opened_here z os before after o k e
 
-  schema_there : schema_at z.history o.start ≡ schema z.history
-  schema_there = schemas_stay z.groups z.history o.start 0 k.legal (active_here z os before after o k e)
+  -- its keys are those of the transaction's changes
+  its_keys : offer.keys ≡ conflict_keys (schema_at z.history o.start) (graph_at z.history o.start []) o.own
+  its_keys = is.made_of.keys_are ∙ ap (conflict_keys (schema_at z.history o.start) (graph_at z.history o.start [])) is.changes_are
 
   judged : Option Reason
   judged = conflict offer.keys (verdict conflict_cmp (commits z.history) offer.start offer.keys)
@@ -117,7 +117,7 @@ module _ (z : Zero) (os before after : List Opened) (o : Opened) (k : IsKept z o
     keys_there =
         let schema_is : machines.schema_at m.alters o.start ≡ schema_at z.history o.start = ap (λ (alts : List Alter). machines.schema_at alts o.start) s.alters_are ∙ schemas_are z.history o.start in
         let graph_is : committed_at m.alters m.commits o.start ≡ graph_at z.history o.start [] = s.graphs_are o.start in
-        (λ i. conflict_keys (schema_is i) (graph_is i) o.own) ∙ sym is.keys_are
+        (λ i. conflict_keys (schema_is i) (graph_is i) o.own) ∙ sym its_keys
 
     clash_is : clash_of m (session_from o) ≡ refusal_by offer.keys (verdict conflict_cmp (commits z.history) offer.start offer.keys)
     clash_is =
@@ -132,18 +132,21 @@ module _ (z : Zero) (os before after : List Opened) (o : Opened) (k : IsKept z o
         clash_is ∙ (refusal_some offer.keys (verdict conflict_cmp (commits z.history) offer.start offer.keys) key ts (sym idle_verdict ∙ h) ∙ ap (λ (l : List ℕ). Some (refusals.Conflict ts l)) (sym t))
 
     -- where it is clear, its parts do what its changes do
-    pub committed_as : zeros.verdict z.history offer.start offer.preds offer.keys ≡ None → IsCommittedAs z os m s 0 o.start o.own offer
-    committed_as h = record {
+    pub committed_as : zeros.verdict z.history offer.start offer.preds offer.keys ≡ None → next z.history < 2 ^ 62 → IsCommittedAs z os m s 0 o.start o.own offer
+    committed_as h lt = record {
       legal = k.legal;
       start_is = is.start_is;
       changes_same = is.changes_are;
       start_drawn = subst (λ (n : ℕ). o.start < n) (sym s.next_is) opened.drawn;
-      keys_same = is.keys_are;
-      parts_do = histories_do_as_changes z.groups z.history 0 o.start offer.preds offer.keys o.own k.legal
-          (subst IsPlain (sym schema_there) k.plain)
-          (active_here z os before after o k e)
-          (subst (λ (ds : List PredDef). AreFitting ds o.own) (sym schema_there) opened.fitting)
-          is.keys_are
-          (subst (λ (n : ℕ). zeros.verdict z.history n offer.preds offer.keys ≡ None) is.start_is h)
-          ∙ ap (λ (ps : List Part). after_changes (schema z.history) (world z.history).graph (changes_of ps)) (sym is.parts_are);
+      keys_same = its_keys;
+      parts_do = ap (after_changes (schema z.history) (world z.history).graph) (sym is.changes_are)
+          ∙ commits_do_as_asked z.groups z.history 0 o.start offer.preds offer.keys offer.changes (record { ts = next z.history; fresh = []; parts = offer.parts }) k.legal (record {
+            active = active_here z os before after o k e;
+            ts = refl;
+            drawn = lt;
+            no_tablet = refl;
+            clear = subst (λ (n : ℕ). zeros.verdict z.history n offer.preds offer.keys ≡ None) is.start_is h;
+            sound = is.sound;
+            made_of = is.made_of;
+          });
     }

@@ -66,7 +66,7 @@ module _ (z : Zero) (os : List Opened) (k : IsKept z os) (sid place : ℕ) (a : 
     without_session (drawn (with_commit m (session_from a.it)) (m.next + 1)) sid,
     committed_is m sid a.it (open_here z os k sid place a m s) a.is ts some (clear z os a.before a.after a.it k a.whole offer is m s none) (subst (λ (n : ℕ). n < 2 ^ 62) (sym s.next_is) lt) (ts_is ∙ sym s.next_is),
     subst (λ (y : Zero). StandFor y (remove os place) (without_session (drawn (with_commit m (session_from a.it)) (m.next + 1)) sid)) (sym (by_zero w (commit_of offer ts) then))
-        (stand_committed z os k sid place a m offer ts s ts_is (committed_as z os a.before a.after a.it k a.whole offer is m s none)),
+        (stand_committed z os k sid place a m offer ts s ts_is (committed_as z os a.before a.after a.it k a.whole offer is m s none lt)),
   )
 
   -- ---- it conflicts

@@ -12,19 +12,17 @@ use Rattle.dg_node.specs.Machine.{Machine}
 use Rattle.dg_node.specs.Queries.{queried, Queries}
 use Rattle.dg_node.specs.Transactions.{discarded, HasChanges}
 use Rattle.dg_node.specs.State.{machine_of, Leads, Stays, MayWant}
-use Rattle.dg_node.proofs.Standing.{Stands, to_all, from_all}
+use Rattle.dg_node.proofs.Standing.{Stands}
+use Rattle.dg_node.proofs.Leading.{Legal, to_all, from_to}
 use Rattle.dg_node.specs.Steps.{Outcome, Spares, Step, TakesMemory}
 
 -- what follows from a step follows from where it leads
 pub leads_by : (before after : Held) (one other : Machine → Machine → Type 0) → ((m n : Machine) → one m n → other m n) → Leads before one after → Leads before other after
-leads_by before after one other f leads = record { leads = λ a. f (machine_of before) (machine_of after) (leads.leads a); agrees = leads.agrees }
+leads_by before after one other f leads = f (machine_of before) (machine_of after) leads
 
 -- the engine stays, and so does the machine
 pub leads_nowhere : (before after : Held) (step : Machine → Machine → Type 0) → ((m : Machine) → step m m) → Stays before after → Leads before step after
-leads_nowhere before after step f stays = record {
-  leads = λ a. subst (λ (n : Machine). step (machine_of before) n) (sym (stays a).0) (f (machine_of before));
-  agrees = λ a. (stays a).1;
-}
+leads_nowhere before after step f stays = subst (λ (n : Machine). step (machine_of before) n) (sym stays) (f (machine_of before))
 
 spares_all : (r : Request) (m : Machine) → Spares r m m
 spares_all (requests.Begin sid) m = inl refl
@@ -34,13 +32,9 @@ pub step_made : (before after : Held) (r : Request) (p : Reply) → Leads before
 step_made before after r p leads = leads_by before after (λ m n. Outcome m r p n) (λ m n. Step m r p n) (λ m n o. inl o) leads
 
 pub step_spared : (before after : Held) (r : Request) → Stays before after → MayWant before r → Leads before (λ m n. Step m r (replies.Refused refusals.Memory) n) after
-step_spared before after r stays wants = record {
-  leads = λ a.
-      let same : machine_of after ≡ machine_of before = (stays a).0 in
-      subst (λ (n : Machine). Step (machine_of before) r (replies.Refused refusals.Memory) n) (sym same)
-      (inr (record { takes = wants; free = refl; spared = spares_all r (machine_of before) }));
-  agrees = λ a. (stays a).1;
-}
+step_spared before after r stays wants =
+    subst (λ (n : Machine). Step (machine_of before) r (replies.Refused refusals.Memory) n) (sym stays)
+    (inr (record { takes = wants; free = refl; spared = spares_all r (machine_of before) }))
 
 -- the same for what is answered, if it is
 pub ok_by : {E : Type 0} (r : Result Reply E) (before after : Held) (one other : Reply → Machine → Machine → Type 0) → ((p : Reply) (m n : Machine) → one p m n → other p m n) → IfOk r (λ p. Leads before (one p) after) → IfOk r (λ p. Leads before (other p) after)
@@ -48,9 +42,9 @@ ok_by (Ok p) before after one other f leads = leads_by before after (one p) (oth
 ok_by (Err e) before after one other f leads = tt
 
 -- the same where the engine stands for the machine
-pub ok_led : {E : Type 0} (r : Result Reply E) (before after : Held) (one other : Reply → Machine → Machine → Type 0) → ((p : Reply) (m n : Machine) → Stands before m → one p m n → other p m n) → IfOk r (λ p. Leads before (one p) after) → IfOk r (λ p. Leads before (other p) after)
-ok_led (Ok p) before after one other f leads = from_all (λ m s. let l = to_all leads m s in (l.0, f p m l.0 s l.1, l.2))
-ok_led (Err e) before after one other f leads = tt
+pub ok_led : {E : Type 0} (r : Result Reply E) (before after : Held) → Legal before → (one other : Reply → Machine → Machine → Type 0) → ((p : Reply) (m n : Machine) → Stands before m → one p m n → other p m n) → IfOk r (λ p. Leads before (one p) after) → IfOk r (λ p. Leads before (other p) after)
+ok_led (Ok p) before after legal one other f leads = from_to legal (λ m s. let l = to_all leads m s in (l.0, f p m l.0 s l.1, l.2))
+ok_led (Err e) before after legal one other f leads = tt
 
 -- ---- a body that is built
 

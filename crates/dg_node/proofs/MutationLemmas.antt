@@ -39,7 +39,8 @@ use Rattle.dg_node.specs.Kept.{IsKept}
 use Rattle.dg_node.specs.Mutations.{first_leased, added, added_from, mutated, MutatesBy, MutatesAs, MutatesText, MutatesIn}
 use Rattle.dg_node.specs.NewUids.{uids_text}
 use Rattle.dg_node.specs.State.{session_from, Leads}
-use Rattle.dg_node.proofs.Standing.{StandFor, from_all}
+use Rattle.dg_node.proofs.Standing.{StandFor}
+use Rattle.dg_node.proofs.Leading.{from_all}
 use Rattle.dg_node.proofs.SessionLemmas.{open_here, schema_here, leased_kept, leased_stand, looked_kept}
 use Rattle.dg_node.proofs.MachineLemmas.{schemas_are}
 
@@ -100,11 +101,11 @@ module _ (z w : Zero) (os : List Opened) (slip top count : ℕ) (own : slip ≡ 
   lease_kept_any (Ok first) ok err legal k = leased_kept z w os top count first k (ok ∙ ap (λ (n : ℕ). and_then z n (Lease top count first)) own) legal
   lease_kept_any (Err fault) ok err legal k = looked_kept z w os slip k err legal
 
-  pub lease_led : (r : Result ℕ ZeroFault) (first : ℕ) → IfOk r (λ first. leased z.history top count ≡ Some first) → IfErr r (λ fault. (leased z.history top count ≡ None) × (fault ≡ faults.UidsSpent (next_uid z.history))) → IfOk r (λ first. w ≡ and_then z slip (Lease top count first)) → leased z.history top count ≡ Some first → Leads (record { zero = z; opened = os }) (λ m n. n ≡ leased_upto m (first + count)) (record { zero = w; opened = os })
-  lease_led (Ok f) first said spent ok e =
+  pub lease_led : IsLegal z.groups z.history → (r : Result ℕ ZeroFault) (first : ℕ) → IfOk r (λ first. leased z.history top count ≡ Some first) → IfErr r (λ fault. (leased z.history top count ≡ None) × (fault ≡ faults.UidsSpent (next_uid z.history))) → IfOk r (λ first. w ≡ and_then z slip (Lease top count first)) → leased z.history top count ≡ Some first → Leads (record { zero = z; opened = os }) (λ m n. n ≡ leased_upto m (first + count)) (record { zero = w; opened = os })
+  lease_led legal (Ok f) first said spent ok e =
       let same : f ≡ first = cc in
-      from_all (λ m s. (leased_upto m (first + count), refl, leased_stand z w os m top count first (ok ∙ (λ i. and_then z (own i) (Lease top count (same i)))) s))
-  lease_led (Err fault) first said spent ok e = absurd (let none : leased z.history top count ≡ None = spent.0 in cc)
+      from_all legal (λ m s. (leased_upto m (first + count), refl, leased_stand z w os m top count first (ok ∙ (λ i. and_then z (own i) (Lease top count (same i)))) s))
+  lease_led legal (Err fault) first said spent ok e = absurd (let none : leased z.history top count ≡ None = spent.0 in cc)
 
 -- ---- whether a body is a text, and whether a session is open
 
@@ -117,8 +118,8 @@ not_whole body n v =
     let lt : n < length body = v.short in
     grind (arith, common_steps)
 
-pub found_open : (z : Zero) (os : List Opened) (m : Machine) (sid place : ℕ) → StandFor z os m → position (λ (o : Opened). o.sid == sid) os ≡ Some place → is_some (session_of m sid) ≡ true
-found_open z os m sid place s e = ap (λ (l : List Session). is_some (find (λ (session : Session). session.sid == sid) l)) s.sessions_are ∙ some_found session_from (λ (session : Session). session.sid) sid os place e
+pub found_open : (os : List Opened) (m : Machine) (sid place : ℕ) → m.sessions ≡ map session_from os → position (λ (o : Opened). o.sid == sid) os ≡ Some place → is_some (session_of m sid) ≡ true
+found_open os m sid place s e = ap (λ (l : List Session). is_some (find (λ (session : Session). session.sid == sid) l)) s ∙ some_found session_from (λ (session : Session). session.sid) sid os place e
 
 -- ---- the session at a place
 

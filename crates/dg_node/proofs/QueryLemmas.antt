@@ -19,7 +19,8 @@ use Rattle.dg_node.specs.Schemas as machine_schemas
 use Rattle.dg_node.specs.State.{session_from, Leads}
 use Rattle.dg_node.proofs.MachineLemmas.{schemas_are}
 use Rattle.dg_node.proofs.SessionLemmas.{seen_here}
-use Rattle.dg_node.proofs.Standing.{Stands, StandFor, from_all}
+use Rattle.dg_node.proofs.Standing.{Stands, StandFor}
+use Rattle.dg_node.proofs.Leading.{Legal, from_all}
 
 -- a block of what is the same
 pub block_by : {E : Type 0} (r : Result (Vec Field Global) E) (name : List ℕ) (one other : List Tree) → one ≡ other → IfOk r (λ block. block.items ≡ block_of name one) → IfOk r (λ block. block.items ≡ block_of name other)
@@ -33,6 +34,6 @@ answer_here z os m o uid name s =
     λ i. answer_text (block_of name (shown (definition_of (schema_is i) name) (seen_is i)))
 
 -- the text of the answer is answered
-pub text_answered : {E : Type 0} (r : Result Reply E) (engine : Held) (sid uid : ℕ) (name text : List ℕ) → ((m : Machine) → Stands engine m → queried m sid uid name ≡ answered m sid text) → ((m : Machine) → IfOk r (λ p. answered m sid text ≡ (p, m))) → IfOk r (λ p. Leads engine (λ m n. queried m sid uid name ≡ (p, n)) engine)
-text_answered (Ok p) engine sid uid name text e answers = from_all (λ m s. (m, e m s ∙ answers m, s))
-text_answered (Err x) engine sid uid name text e answers = tt
+pub text_answered : {E : Type 0} (r : Result Reply E) (engine : Held) → Legal engine → (sid uid : ℕ) (name text : List ℕ) → ((m : Machine) → Stands engine m → queried m sid uid name ≡ answered m sid text) → ((m : Machine) → IfOk r (λ p. answered m sid text ≡ (p, m))) → IfOk r (λ p. Leads engine (λ m n. queried m sid uid name ≡ (p, n)) engine)
+text_answered (Ok p) engine legal sid uid name text e answers = from_all legal (λ m s. (m, e m s ∙ answers m, s))
+text_answered (Err x) engine legal sid uid name text e answers = tt

@@ -52,9 +52,9 @@ not_some os sid (Some place) e none = absurd (cc)
 
 -- ---- discard
 
-pub discarded_is : (z : Zero) (os : List Opened) (m : Machine) (sid place : ℕ) → StandFor z os m → position (λ (o : Opened). o.sid == sid) os ≡ Some place → ◌≡◌ {A = Pair} (discarded m sid) (replies.Discard sid, without_session m sid)
-discarded_is z os m sid place s e =
-    let there : is_open m sid ≡ true = ap (λ (l : List Session). is_some (find (λ (session : Session). session.sid == sid) l)) s.sessions_are ∙ some_found session_from (λ (session : Session). session.sid) sid os place e in
+pub discarded_is : (os : List Opened) (m : Machine) (sid place : ℕ) → m.sessions ≡ map session_from os → position (λ (o : Opened). o.sid == sid) os ≡ Some place → ◌≡◌ {A = Pair} (discarded m sid) (replies.Discard sid, without_session m sid)
+discarded_is os m sid place s e =
+    let there : is_open m sid ≡ true = ap (λ (l : List Session). is_some (find (λ (session : Session). session.sid == sid) l)) s ∙ some_found session_from (λ (session : Session). session.sid) sid os place e in
     rw there refl
 
 -- ---- commit

@@ -23,7 +23,7 @@ use Rattle.dg_zero.specs.declared.offer.Offer.{Offer}
 use Rattle.dg_zero.specs.Counters.{active, is_active_of}
 use Rattle.dg_zero.specs.Legal.{IsLegal}
 use Rattle.dg_zero.specs.Listings.{conflict_keys}
-use Rattle.dg_zero.specs.Offers.{IsSound}
+use Rattle.dg_zero.specs.Offers.{IsSound, IsMadeOf}
 use Rattle.dg_zero.specs.Worlds.{World, world_at, schema, schema_at, graph_at}
 use Rattle.dg_zero.proofs.SchemasStay.{schemas_stay}
 use Rattle.dg_zero.proofs.LawfulGraphs.{world_lawful}
@@ -60,15 +60,14 @@ all_seen w view own n p s os ascend most is so_far =
     ∙ (sym (objects_after_all w.schema w.graph own p s ascend) ∙ ap (λ (v : World). objects v.graph p s) is))
 
 -- an offer by its parts
-pub offer_made : {E : Type 0} (r : Result Offer E) (h : List Entry) (o : Opened) (w : World) (own : List Change) → w ≡ world_at h o.start → own ≡ o.own → IfOk r (λ offer. offer.start ≡ o.start) → IfOk r (λ offer. offer.changes ≡ own) → IfOk r (λ offer. offer.keys ≡ conflict_keys w.schema w.graph own) → IfOk r (λ offer. offer.parts ≡ deltas w.schema w.graph own) → IfOk r (λ offer. IsSound w.schema w.graph offer.preds offer.keys offer.parts) → IfOk r (IsOfferOf h o)
-offer_made (Ok offer) h o w own e f start changes keys parts sound = record {
+pub offer_made : {E : Type 0} (r : Result Offer E) (h : List Entry) (o : Opened) (w : World) (own : List Change) → w ≡ world_at h o.start → own ≡ o.own → IfOk r (λ offer. offer.start ≡ o.start) → IfOk r (λ offer. offer.changes ≡ own) → IfOk r (λ offer. IsMadeOf w.schema w.graph offer.changes offer.keys offer.parts) → IfOk r (λ offer. IsSound w.schema w.graph offer.preds offer.keys offer.parts) → IfOk r (IsOfferOf h o)
+offer_made (Ok offer) h o w own e f start changes made sound = record {
   start_is = start;
   changes_are = changes ∙ f;
-  keys_are = keys ∙ λ i. conflict_keys (e i).schema (e i).graph (f i);
-  parts_are = parts ∙ λ i. deltas (e i).schema (e i).graph (f i);
+  made_of = subst (λ (v : World). IsMadeOf v.schema v.graph offer.changes offer.keys offer.parts) e made;
   sound = subst (λ (v : World). IsSound v.schema v.graph offer.preds offer.keys offer.parts) e sound;
 }
-offer_made (Err x) h o w own e f start changes keys parts sound = tt
+offer_made (Err x) h o w own e f start changes made sound = tt
 
 -- the text of the key of a conflict
 pub clash_there : (keys : List ConflictKey) (v : Verdict) (at ts : ℕ) (key : ConflictKey) → v ≡ Conflict at ts → slice_get keys at ≡ Some key → clash_text keys v ≡ conflict_text key

@@ -30,7 +30,8 @@ use Rattle.dg_node.specs.Queries.{seen}
 use Rattle.dg_node.proofs.MachineLemmas.{schemas_are}
 use Rattle.dg_node.specs.Kept.{AreApart, IsOpened, IsKept}
 use Rattle.dg_node.specs.State.{session_from, machine_of, Leads}
-use Rattle.dg_node.proofs.Standing.{StandFor, from_all}
+use Rattle.dg_node.proofs.Standing.{StandFor}
+use Rattle.dg_node.proofs.Leading.{from_all}
 use Rattle.dg_node.proofs.OneAmong.{Around, all_joined, without, found, none_has, not_found, changed, removed_is, set_is, it_is}
 use Rattle.dg_node.proofs.StandLemmas.{IsQuiet, stand_quiet, IsCommittedAs, stand_commit}
 use Rattle.dg_node.proofs.KeptLemmas.{Ends, ended_kept, look_kept, lease_kept, changed_kept, active_here, opened_here}
@@ -44,9 +45,9 @@ pub stand_look : (z : Zero) (os : List Opened) (m : Machine) (author : ℕ) → 
 stand_look z os m author s = stand_quiet z os m s author Look os m.sessions m.next m.next_uid look_quiet (omega arith) refl s.sessions_are
 
 -- a session without a transaction
-pub none_open_here : (z : Zero) (os : List Opened) (m : Machine) (sid : ℕ) → StandFor z os m → position (λ o. o.sid == sid) os ≡ None → session_of m sid ≡ None
-none_open_here z os m sid s e =
-    ap (find (λ (session : Session). session.sid == sid)) s.sessions_are ∙ not_found session_from (λ (session : Session). session.sid) sid os (none_has session_from (λ (session : Session). session.sid) sid os e)
+pub none_open_here : (os : List Opened) (m : Machine) (sid : ℕ) → m.sessions ≡ map session_from os → position (λ o. o.sid == sid) os ≡ None → session_of m sid ≡ None
+none_open_here os m sid s e =
+    ap (find (λ (session : Session). session.sid == sid)) s ∙ not_found session_from (λ (session : Session). session.sid) sid os (none_has session_from (λ (session : Session). session.sid) sid os e)
 
 -- ---- a session with one
 
@@ -215,5 +216,5 @@ module _ (z : Zero) (os : List Opened) (k : IsKept z os) (sid place : ℕ) (a : 
   taken_kept (Err x) ok err fit = added_kept z os k sid place a d e [] own (err ∙ sym (append-nil d.own)) tt
 
   pub taken_stands : {A E : Type 0} (r : Result A E) → OnOk r (own ≡ d.own ++ changes) → OnOk r (Leads (record { zero = z; opened = os }) (λ m n. n ≡ with_changes m sid changes) (record { zero = z; opened = set os place (record { sid = d.sid; start = d.start; schema = d.schema; own = own; slip = d.slip }) }))
-  taken_stands (Ok x) ok = from_all (λ m s. (with_changes m sid changes, refl, added_stands z os k sid place a d e changes own ok m s))
+  taken_stands (Ok x) ok = from_all k.legal (λ m s. (with_changes m sid changes, refl, added_stands z os k sid place a d e changes own ok m s))
   taken_stands (Err x) ok = tt

@@ -7,18 +7,15 @@ use Rattle.dg_oracle.specs.declared.verdict.Verdict.{Verdict}
 use Rattle.dg_oracle.specs.declared.verdict.Verdict.TheVariants.{Clear, Conflict}
 use Rattle.dg_zero.specs.declared.entry.Entry.{Entry}
 use Rattle.dg_zero.specs.declared.offer.Offer.{Offer}
-use Rattle.dg_zero.specs.Listings.{conflict_keys}
-use Rattle.dg_zero.specs.Offers.{IsSound}
+use Rattle.dg_zero.specs.Offers.{IsSound, IsMadeOf}
 use Rattle.dg_zero.specs.Worlds.{schema_at, graph_at}
-use Rattle.dg_edges.specs.Deltas.{deltas}
 use Rattle.dg_node.specs.declared.engine.Opened.{Opened}
 
--- the offer has the start, the changes of an open transaction, and their keys and parts, and is sound
+-- the offer has the start and the changes of an open transaction, is made of them, and is sound
 pub record IsOfferOf (history : List Entry) (o : Opened) (offer : Offer) : Type 0 where
   pub start_is : offer.start ≡ o.start
   pub changes_are : offer.changes ≡ o.own
-  pub keys_are : offer.keys ≡ conflict_keys (schema_at history o.start) (graph_at history o.start []) o.own
-  pub parts_are : offer.parts ≡ deltas (schema_at history o.start) (graph_at history o.start []) o.own
+  pub made_of : IsMadeOf (schema_at history o.start) (graph_at history o.start []) offer.changes offer.keys offer.parts
   pub sound : IsSound (schema_at history o.start) (graph_at history o.start []) offer.preds offer.keys offer.parts
 
 -- the text of the key that a verdict names, and none where it names none

@@ -5,6 +5,7 @@ use Rattle.dg_zero.specs.declared.entry.Entry.{Entry}
 use Rattle.dg_zero.specs.declared.entry.Event.{Event}
 use Rattle.dg_zero.specs.declared.entry.Event.TheVariants as events
 use Rattle.dg_zero.specs.Counters.{next, next_uid}
+use Rattle.dg_zero.specs.Legal.{IsLegal}
 use Rattle.dg_zero.specs.Verdicts.{commits}
 use Rattle.dg_zero.specs.Worlds.{world_at}
 use Rattle.dg_node.specs.declared.engine.Opened.{Opened}
@@ -49,29 +50,36 @@ machine_of held = record {
   sessions = map session_from held.opened;
 }
 
+-- the machine of a history, where no transaction is open
+abbrev pub machine_at : ℕ → List Entry → Machine
+machine_at groups history = machine_of (record { zero = record { groups = groups; history = history }; opened = [] })
+
 -- a commit's timestamps were drawn, its start before the other
 abbrev pub IsDrawn : ℕ → Commit → Type 0
 IsDrawn next commit = (commit.start < commit.ts) × (commit.ts < next)
 
--- What commits wrote into the history is what they asked for: by their changes the machine has the keys that the history
--- has, and at each timestamp the same graph. This is kept from the first request on.
-pub record Agrees (held : Held) : Type 0 where
-  pub keys_are : map (keyed (machine_of held)) (machine_of held).commits ≡ commits held.zero.history
-  pub drawn : AllByRecursion (IsDrawn (machine_of held).next) (machine_of held).commits
-  pub graphs_are : (at : ℕ) → committed_at (machine_of held).alters (machine_of held).commits at ≡ (world_at held.zero.history at).graph
+-- What commits wrote into a history is what they asked for: by their changes the machine has the keys that the history has, and
+-- at each timestamp the same graph.
+pub record Agrees (groups : ℕ) (history : List Entry) : Type 0 where
+  pub keys_are : map (keyed (machine_at groups history)) (asked_by history) ≡ commits history
+  pub drawn : AllByRecursion (IsDrawn (next history)) (asked_by history)
+  pub graphs_are : (at : ℕ) → committed_at (alters history) (asked_by history) at ≡ (world_at history at).graph
+
+-- so it is in every legal history
+abbrev pub HistoriesAgree : Type 0
+HistoriesAgree = (groups : ℕ) (history : List Entry) → IsLegal groups history → Agrees groups history
 
 -- the step leads from the machine before to the machine after
-pub record Leads (before : Held) (step : Machine → Machine → Type 0) (after : Held) : Type 0 where
-  pub leads : Agrees before → step (machine_of before) (machine_of after)
-  pub agrees : Agrees before → Agrees after
+abbrev pub Leads : Held → (Machine → Machine → Type 0) → Held → Type 0
+Leads before step after = step (machine_of before) (machine_of after)
 
 -- the machine stays
 abbrev pub Stays : Held → Held → Type 0
-Stays before after = Agrees before → (machine_of after ≡ machine_of before) × Agrees after
+Stays before after = machine_of after ≡ machine_of before
 
 -- the engine stands for this machine
 abbrev pub StandsFor : Held → Machine → Type 0
-StandsFor held machine = (machine_of held ≡ machine) × Agrees held
+StandsFor held machine = machine_of held ≡ machine
 
 -- the request's calls take memory
 abbrev pub MayWant : Held → Request → Type 0

@@ -1,5 +1,6 @@
 // What holds of every run of the machine.
 ghost use Rattle.dg_node.specs.Complete.{IsComplete};
+ghost use Rattle.dg_node.specs.State.{HistoriesAgree};
 ghost use Rattle.dg_node.specs.Steps.{IsDetermined};
 
 /// The replies to a list of requests, and the state behind them, are one alone where no reply says that memory was
@@ -12,4 +13,10 @@ pub fn runs_are_determined()
 /// to these requests, unless a read or a write fails or memory is wanting.
 pub fn frames_are_answered()
     ensures { IsComplete }
+{}
+
+/// In every legal history the commits wrote what they asked for: by their changes the machine has the keys that were
+/// committed, and at each timestamp the same graph.
+pub fn histories_agree()
+    ensures { HistoriesAgree }
 {}

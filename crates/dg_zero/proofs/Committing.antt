@@ -14,7 +14,7 @@ use Rattle.dg_zero.specs.declared.offer.Offer.{Offer}
 use Rattle.dg_zero.specs.Counters.{active, starts_of, Started, is_active_of}
 use Rattle.dg_zero.specs.Worlds.{schema_at, graph_at}
 use Rattle.dg_zero.specs.Verdicts.{commits, verdict}
-use Rattle.dg_zero.specs.Offers.{IsSound}
+use Rattle.dg_zero.specs.Offers.{IsSound, IsMadeOf}
 use Rattle.dg_schema.specs.declared.definition.PredDef.{PredDef}
 use Rattle.dg_keys.specs.declared.record.Tablet.{Tablet}
 use Rattle.dg_zero.specs.declared.entry.Event.TheVariants.{End, Look}
@@ -98,6 +98,6 @@ module _ (n : ℕ) (o : oracle.OracleState ConflictKey) (uid : ℕ) (d : List Pr
   clear j = subst (λ (x : List Entry). verdict x offer.start offer.preds offer.keys ≡ None) view (clear_before j)
 
   -- committed
-  pub committed : (past : List Entry) → judged.verdict conflict_cmp (commits now) offer.start offer.keys ≡ verdicts.Clear → o.next < 2 ^ 62 → IsSound (schema_at now offer.start) (graph_at now offer.start []) offer.preds offer.keys offer.parts → past ≡ and_entry h author (commit_of offer o.next) → IsKept n (oracle.committed o offer.start offer.keys) uid d ps w past
-  committed past j lt sound p =
-      rw p (commit_keeps n o uid d ps w h author k offer lt mine_before (clear_before j) (subst (λ (x : List Entry). IsSound (schema_at x offer.start) (graph_at x offer.start []) offer.preds offer.keys offer.parts) (sym view) sound))
+  pub committed : (past : List Entry) → judged.verdict conflict_cmp (commits now) offer.start offer.keys ≡ verdicts.Clear → o.next < 2 ^ 62 → IsSound (schema_at now offer.start) (graph_at now offer.start []) offer.preds offer.keys offer.parts → IsMadeOf (schema_at now offer.start) (graph_at now offer.start []) offer.changes offer.keys offer.parts → past ≡ and_entry h author (commit_of offer o.next) → IsKept n (oracle.committed o offer.start offer.keys) uid d ps w past
+  committed past j lt sound made_of p =
+      rw p (commit_keeps n o uid d ps w h author k offer lt mine_before (clear_before j) (subst (λ (x : List Entry). IsSound (schema_at x offer.start) (graph_at x offer.start []) offer.preds offer.keys offer.parts) (sym view) sound) (subst (λ (x : List Entry). IsMadeOf (schema_at x offer.start) (graph_at x offer.start []) offer.changes offer.keys offer.parts) (sym view) made_of))

@@ -19,7 +19,7 @@ use Rattle.dg_zero.specs.declared.tablets.Phase.TheVariants.{Idle}
 use Rattle.dg_zero.specs.declared.tablets.Place.{Place}
 use Rattle.dg_zero.specs.Counters.{next, next_uid_after, next_uid, Started, active, starts_of, is_active_of}
 use Rattle.dg_zero.specs.Legal.{Fits, FitsLease, IsReason}
-use Rattle.dg_zero.specs.Offers.{IsSound}
+use Rattle.dg_zero.specs.Offers.{IsSound, IsMadeOf}
 use Rattle.dg_zero.specs.Places.{Places, places, places_after, tablets, fresh, fresh_place, is_held}
 use Rattle.dg_zero.specs.States.{IsKept, and_entry, commit_of, owners_of, KeepKinds, AreAlterParts}
 use Rattle.dg_zero.specs.Verdicts.{commits, verdict}
@@ -132,11 +132,11 @@ module _ (n : ℕ) (o : oracle.OracleState ConflictKey) (uid : ℕ) (d : List Pr
 
   -- ---- a commit
 
-  pub commit_keeps : (offer : Offer) → o.next < 2 ^ 62 → is_active_of (active h) offer.start author ≡ true → verdict h offer.start offer.preds offer.keys ≡ None → IsSound (schema_at h offer.start) (graph_at h offer.start []) offer.preds offer.keys offer.parts → IsKept n (oracle.committed o offer.start offer.keys) uid d ps w (and_entry h author (commit_of offer o.next))
-  commit_keeps offer lt a clear sound =
+  pub commit_keeps : (offer : Offer) → o.next < 2 ^ 62 → is_active_of (active h) offer.start author ≡ true → verdict h offer.start offer.preds offer.keys ≡ None → IsSound (schema_at h offer.start) (graph_at h offer.start []) offer.preds offer.keys offer.parts → IsMadeOf (schema_at h offer.start) (graph_at h offer.start []) offer.changes offer.keys offer.parts → IsKept n (oracle.committed o offer.start offer.keys) uid d ps w (and_entry h author (commit_of offer o.next))
+  commit_keeps offer lt a clear sound made_of =
       let e : Entry = record { author = author; event = commit_of offer o.next } in
       still_keeps (commit_of offer o.next) (oracle.committed o offer.start offer.keys) uid (record { schema_stays = λ w. refl; places_stay = λ s. refl }) (record {
-        fits = record { active = a; ts = k.next_is; drawn = lt; no_tablet = refl; clear = clear; sound = sound };
+        fits = record { active = a; ts = k.next_is; drawn = lt; no_tablet = refl; clear = clear; sound = sound; made_of = made_of };
         next_is = let p = next_push h e in omega (arith, k.next_is);
         active_are = rw active_push (ap (λ (xs : List ℕ). oracle.without xs offer.start) k.active_are ∙ sym (starts_of_ended (active h) offer.start));
         commits_are = rw commits_push (ap (λ (cs : List (oracle.Commit ConflictKey)). cs ++ (record { ts = o.next; keys = offer.keys }) ∷ []) k.commits_are);

@@ -6,6 +6,7 @@ use Rattle.dg_values.specs.declared.kind.Kind.TheVariants as kinds
 use Rattle.dg_schema.specs.declared.definition.PredDef.{PredDef}
 use Rattle.dg_schema.specs.Definitions.{definition_of, with_definitions, AreDistinct}
 use Rattle.dg_graph.specs.declared.change.Triple.{Triple}
+use Rattle.dg_graph.specs.declared.change.Change.{Change}
 use Rattle.dg_graph.specs.Graphs.{is_of}
 use Rattle.dg_keys.specs.declared.conflict.ConflictKey.{ConflictKey}
 use Rattle.dg_keys.specs.declared.record.Record.{Record}
@@ -20,16 +21,18 @@ use Rattle.dg_zero.specs.Counters.{next, last, next_uid, active, is_active_of, l
 use Rattle.dg_zero.specs.Worlds.{world, schema, schema_at, graph_at}
 use Rattle.dg_zero.specs.Places.{tablets, copies, copy_at, phase, owner, is_held, fresh}
 use Rattle.dg_zero.specs.Verdicts.{verdict}
-use Rattle.dg_zero.specs.Offers.{IsSound}
+use Rattle.dg_zero.specs.Offers.{IsSound, IsMadeOf}
 
--- a commit of an active start, which has the next timestamp, brings no tablet, conflicts with nothing and is sound
-pub record FitsCommit (history : List Entry) (author start : ℕ) (preds : List (List ℕ)) (keys : List ConflictKey) (written : Record) : Type 0 where
+-- a commit of an active start, which has the next timestamp, brings no tablet, conflicts with nothing, is sound and is made of
+-- what was asked for
+pub record FitsCommit (history : List Entry) (author start : ℕ) (preds : List (List ℕ)) (keys : List ConflictKey) (asked : List Change) (written : Record) : Type 0 where
   pub active : is_active_of (active history) start author ≡ true
   pub ts : written.ts ≡ next history
   pub drawn : written.ts < 2 ^ 62
   pub no_tablet : written.fresh ≡ []
   pub clear : verdict history start preds keys ≡ None
   pub sound : IsSound (schema_at history start) (graph_at history start []) preds keys written.parts
+  pub made_of : IsMadeOf (schema_at history start) (graph_at history start []) asked keys written.parts
 
 -- the predicate or key that a refusal names is a reason by itself
 abbrev pub IsReason : List Entry → ℕ → Reason → Type 0
@@ -83,7 +86,7 @@ pub record FitsRolled (history : List Entry) (pred : List ℕ) (group upto : ℕ
 -- an event of an author fits the entries before it, with n groups
 abbrev pub Fits : ℕ → List Entry → ℕ → Event → Type 0
 Fits n history author (events.Begin start) = (start ≡ next history) × (start < 2 ^ 62)
-Fits n history author (events.Commit start preds keys asked written) = FitsCommit history author start preds keys written
+Fits n history author (events.Commit start preds keys asked written) = FitsCommit history author start preds keys asked written
 Fits n history author (events.Refused start reason) = (is_active_of (active history) start author ≡ true) × IsReason history start reason
 Fits n history author (events.End start) = is_active_of (active history) start author ≡ true
 Fits n history author (events.Lease top count first) = FitsLease history top count first

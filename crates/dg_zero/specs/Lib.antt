@@ -6,6 +6,7 @@ pub mod Places
 pub mod Verdicts
 pub mod Offers
 pub mod Legal
+pub mod Exact
 pub mod Laws
 pub mod Pasts
 pub mod Records

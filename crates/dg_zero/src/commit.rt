@@ -5,7 +5,7 @@ ghost use Rattle.dg_keys.specs.Conflicts.{conflict_cmp};
 ghost use Rattle.dg_oracle.specs.Verdicts as oracle;
 ghost use Rattle.dg_zero.specs.Counters.{next, active, is_active_of};
 ghost use Rattle.dg_zero.specs.Legal.{IsLegal};
-ghost use Rattle.dg_zero.specs.Offers.{IsSound};
+ghost use Rattle.dg_zero.specs.Offers.{IsSound, IsMadeOf};
 ghost use Rattle.dg_zero.specs.States.{and_then, commit_of, commit_fault_of, IsRefusal};
 ghost use Rattle.dg_zero.specs.Verdicts.{verdict, commits};
 ghost use Rattle.dg_zero.specs.Worlds.{schema_at, graph_at};
@@ -24,6 +24,7 @@ impl ZeroState {
     pub fn commit(&mut self, slip: Slip, offer: Offer) -> Result<u64, CommitFault>
         requires active { is_active_of (active self.old.history) offer.start slip ≡ true }
         requires sound { IsSound (schema_at self.old.history offer.start) (graph_at self.old.history offer.start []) offer.preds offer.keys offer.parts }
+        requires made_of { IsMadeOf (schema_at self.old.history offer.start) (graph_at self.old.history offer.start []) offer.changes offer.keys offer.parts }
         ensures ts { IfOk result (λ ts. ts ≡ next self.old.history) }
         ensures ok { IfOk result (λ ts. self.new ≡ and_then self.old slip (commit_of offer ts)) }
         ensures clear { OnOk result (verdict self.old.history offer.start offer.preds offer.keys ≡ None) }
@@ -86,6 +87,7 @@ impl ZeroState {
     ) -> Result<u64, CommitFault>
         requires active { is_active_of (active self.old.history) offer.start slip ≡ true }
         requires sound { IsSound (schema_at self.old.history offer.start) (graph_at self.old.history offer.start []) offer.preds offer.keys offer.parts }
+        requires made_of { IsMadeOf (schema_at self.old.history offer.start) (graph_at self.old.history offer.start []) offer.changes offer.keys offer.parts }
         requires copied { copied.items ≡ offer.keys }
         requires judged { oracle.verdict conflict_cmp (commits self.old.history) offer.start offer.keys ≡ Verdict.Clear }
         ensures ts { IfOk result (λ ts. ts ≡ next self.old.history) }

@@ -3,7 +3,7 @@ ghost use Rattle.std.specs.Prelude.{◌≡◌, ◌≢◌, ◌+◌, ◌<◌, ◌^
 ghost use Rattle.dg_edges.specs.Deltas.{IsPlain, AreFitting};
 ghost use Rattle.dg_edges.specs.Expanding.{new_names};
 ghost use Rattle.dg_graph.specs.Graphs.{IsLawful};
-ghost use Rattle.dg_zero.specs.Offers.{IsSound};
+ghost use Rattle.dg_zero.specs.Offers.{IsSound, IsMadeOf};
 
 use dg_edges::{Resolved, conflict_keys, deltas_of, expand, offer_of};
 use dg_graph::{Change, Plain, Snapshot};
@@ -46,6 +46,7 @@ pub(crate) fn offer<S: Snapshot>(
     requires lawful { IsLawful (S.declared snap.now) (S.graph snap.now) }
     ensures start { IfOk result (λ offer. offer.start ≡ start) }
     ensures sound { changes.now ≢ [] → IfOk result (λ offer. IsSound (S.declared snap.now) (S.graph snap.now) offer.preds offer.keys offer.parts) }
+    ensures made_of { IfOk result (λ offer. IsMadeOf (S.declared snap.now) (S.graph snap.now) offer.changes offer.keys offer.parts) }
 {
     offer_in::<S, Brand>(alloc, snap, start, changes, Blank::new(1))
 }
@@ -65,6 +66,7 @@ fn offer_in<S: Snapshot, L: Ledger>(
     requires lawful { IsLawful (S.declared snap.now) (S.graph snap.now) }
     ensures start { IfOk result (λ offer. offer.start ≡ start) }
     ensures sound { changes.now ≢ [] → IfOk result (λ offer. IsSound (S.declared snap.now) (S.graph snap.now) offer.preds offer.keys offer.parts) }
+    ensures made_of { IfOk result (λ offer. IsMadeOf (S.declared snap.now) (S.graph snap.now) offer.changes offer.keys offer.parts) }
 {
     let mut reads = Steps::<L>::new(blank);
     offer_of(alloc, snap, start, changes, &mut reads)

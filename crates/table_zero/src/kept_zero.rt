@@ -4,7 +4,7 @@ ghost use Rattle.std.specs.List.{AllByRecursion};
 ghost use Rattle.dg_edges.specs.Deltas.{IsPlain, AreFitting};
 ghost use Rattle.dg_schema.specs.Definitions.{definition_of};
 ghost use Rattle.dg_zero.specs.Legal.{IsLegal, KeepsKind, kind_rank};
-ghost use Rattle.dg_zero.specs.Offers.{IsSound};
+ghost use Rattle.dg_zero.specs.Offers.{IsSound, IsMadeOf};
 ghost use Rattle.dg_zero.specs.Worlds.{schema, world, schema_at, graph_at};
 ghost use Rattle.table_zero.specs.Kept.{ends};
 
@@ -179,6 +179,7 @@ fn offer_from(
     requires stays { (at : ℕ) → altered ≤ at → schema_at zero.now.history at ≡ schema zero.now.history }
     ensures start { IfOk result (λ offer. offer.start ≡ start) }
     ensures sound { IfOk result (λ offer. IsSound (schema_at zero.now.history start) (graph_at zero.now.history start []) offer.preds offer.keys offer.parts) }
+    ensures made_of { IfOk result (λ offer. IsMadeOf (schema_at zero.now.history start) (graph_at zero.now.history start []) offer.changes offer.keys offer.parts) }
 {
     if start < altered || changes.is_empty() || !is_plain(zero.schema()) {
         return Err(Fault::Unfit);
@@ -198,6 +199,7 @@ fn offer_at(alloc: Global, zero: &ZeroState, start: u64, changes: &[Change]) -> 
     requires some { changes.now ≢ [] }
     ensures start { IfOk result (λ offer. offer.start ≡ start) }
     ensures sound { IfOk result (λ offer. IsSound (schema_at zero.now.history start) (graph_at zero.now.history start []) offer.preds offer.keys offer.parts) }
+    ensures made_of { IfOk result (λ offer. IsMadeOf (schema_at zero.now.history start) (graph_at zero.now.history start []) offer.changes offer.keys offer.parts) }
 {
     let seen = zero.seen_at(alloc, zero.schema(), start)?;
     counted::offer(alloc, &seen, start, changes)

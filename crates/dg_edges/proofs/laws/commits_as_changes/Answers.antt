@@ -1,5 +1,5 @@
-use Rattle.dg_edges.proofs.CommitsSince.{histories_do_as_changes, histories_keep_parts}
+use Rattle.dg_edges.proofs.CommitsSince.{commits_do_as_asked, data_parts_are_exact, commits_are_exact}
 use Rattle.dg_edges.proofs.laws.commits_as_changes.Goals as goal
 
 pub returns : goal.returns
-returns c = record { changes = histories_do_as_changes; parts = histories_keep_parts }
+returns c = record { asked = commits_do_as_asked; data = data_parts_are_exact; exact = commits_are_exact }

@@ -1,10 +1,11 @@
 use Rattle.std.proofs.Common.{◌≡◌, ℕ, List, subst, sym, ◌∙◌}
+use Rattle.dg_graph.specs.declared.change.Change.{Change}
 use Rattle.dg_keys.specs.declared.conflict.ConflictKey.{ConflictKey}
 use Rattle.dg_keys.specs.declared.record.Part.{Part}
 use Rattle.dg_zero.specs.Listings.{conflict_keys}
-use Rattle.dg_zero.specs.Offers.{IsSound}
+use Rattle.dg_zero.specs.Offers.{IsSound, IsMadeOf}
 use Rattle.dg_edges.specs.Deltas.{preds_of, deltas}
-use Rattle.dg_edges.proofs.OfferLaws.{offers_are_sound}
+use Rattle.dg_edges.proofs.OfferLaws.{offers_are_sound, offers_are_made}
 use Rattle.dg_edges.proofs.offer.offer_of.Goals as goal
 
 pub returns-clause-sound : goal.returns-clause-sound
@@ -19,3 +20,16 @@ returns-clause-sound g c some =
     subst (λ (ps : List (List ℕ)). IsSound schema graph ps c.from_vec-keys.result c.from_vec-parts.result) (sym preds)
     (subst (λ (ks : List ConflictKey). IsSound schema graph (preds_of changes) ks c.from_vec-parts.result) (sym keys)
     (subst (λ (ps : List Part). IsSound schema graph (preds_of changes) (conflict_keys schema graph changes) ps) (sym parts) sound))
+
+pub returns-clause-made_of : goal.returns-clause-made_of
+returns-clause-made_of g c =
+    let graph = g.S.Snapshot.graph c.args.snap.now in
+    let schema = g.S.Snapshot.declared c.args.snap.now in
+    let changes = c.args.changes.now in
+    let asked : c.from_vec-asked.result ≡ changes = c.from_vec-asked.ensures ∙ c.in_ok-copies.ensures in
+    let keys : c.from_vec-keys.result ≡ conflict_keys schema graph changes = c.from_vec-keys.ensures ∙ c.in_ok-conflict_keys.ensures in
+    let parts : c.from_vec-parts.result ≡ deltas schema graph changes = c.from_vec-parts.ensures ∙ c.in_ok-deltas_of.ensures.parts in
+    let made = offers_are_made schema graph changes c.requires.plain c.requires.fitting c.requires.lawful in
+    subst (λ (cs : List Change). IsMadeOf schema graph cs c.from_vec-keys.result c.from_vec-parts.result) (sym asked)
+    (subst (λ (ks : List ConflictKey). IsMadeOf schema graph changes ks c.from_vec-parts.result) (sym keys)
+    (subst (λ (ps : List Part). IsMadeOf schema graph changes (conflict_keys schema graph changes) ps) (sym parts) made))

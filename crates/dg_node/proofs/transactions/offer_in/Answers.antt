@@ -25,5 +25,5 @@ offer_of-requires-clause-lawful g c = subst (λ (w : World). IsLawful w.schema w
 pub returns : goal.returns
 returns g c =
     offer_made c.offer_of.result c.args.zero.now.history c.args.opened.now c.in_ok-seen.seen c.as_slice.result.now c.in_ok-seen.ensures c.as_slice.ensures
-    c.offer_of.ensures.start c.offer_of.ensures.changes c.offer_of.ensures.keys c.offer_of.ensures.parts
+    c.offer_of.ensures.start c.offer_of.ensures.changes c.offer_of.ensures.made_of
     (c.offer_of.ensures.sound (subst (λ (own : List Change). own ≢ []) (sym c.as_slice.ensures) c.requires.some))

@@ -1,4 +1,4 @@
-use Rattle.std.proofs.Common.{◌≡◌, ◌≢◌, true, List, [], length, Some, ap, sym, subst, ◌∙◌, arith}
+use Rattle.std.proofs.Common.{◌≡◌, ◌≢◌, true, List, [], length, Some, refl, ap, sym, subst, ◌∙◌, arith}
 use Rattle.std.specs.Prelude.{◌==◌, position, slice_get, IfSome, Option}
 use Rattle.std.specs.Arc.{arc_value}
 use Rattle.std.proofs.lemmas.Bool.{true≢false}
@@ -18,25 +18,27 @@ use Rattle.dg_node.specs.declared.engine.Opened.{Opened}
 use Rattle.dg_node.specs.Kept.{Held}
 use Rattle.dg_node.specs.Mutations.{added}
 use Rattle.dg_node.specs.NewUids.{uids_text}
-use Rattle.dg_node.proofs.Standing.{Stands, StandFor, from_all, to_all}
+use Rattle.dg_node.specs.State.{machine_of}
+use Rattle.dg_node.proofs.Standing.{Stands, StandFor}
 use Rattle.dg_node.proofs.OneAmong.{around, it_is, get_is}
 use Rattle.dg_node.proofs.KeptLemmas.{active_here, opened_here}
 use Rattle.dg_node.proofs.SeenLemmas.{start_schema, view_lawful}
 use Rattle.dg_node.proofs.MutationLemmas.{found_open, found_session, added_none, spent_here, added_here}
+use Rattle.dg_node.proofs.Leading.{from_all, from_to, from_sessions, to_all, legal_by}
 use Rattle.dg_node.proofs.engine.Engine.add.Goals as goal
 
 pub returns-then-is_empty-clause-ok : goal.returns-then-is_empty-clause-ok
-returns-then-is_empty-clause-ok c = from_all (λ m s.
+returns-then-is_empty-clause-ok c = from_sessions (λ m s.
     let held = c.args.self.now in
     let sid = c.args.sid in
     let edges : List Edge = c.args.resolved.now in
     let none : edges ≡ [] = c.is_empty.ensures.0 c.if-is_empty.true in
     let names : c.in_ok-names.names.items ≡ [] = c.in_ok-names.ensures ∙ ap new_names none in
     let body : uids_text 0 [] ≡ c.in_ok-body.body = sym (c.in_ok-body.ensures ∙ ap (uids_text 0) names) in
-    (m, found_session m sid (λ t. added m t edges ≡ (replies.Mutate sid c.in_ok-body.body, m)) (found_open held.zero held.opened m sid c.args.place s c.requires.at) (λ t is. added_none m t edges none ∙ (λ i. (replies.Mutate (is i) (body i), m))), s))
+    found_session m sid (λ t. added m t edges ≡ (replies.Mutate sid c.in_ok-body.body, m)) (found_open held.opened m sid c.args.place s c.requires.at) (λ t is. added_none m t edges none ∙ (λ i. (replies.Mutate (is i) (body i), m))))
 
 pub returns-in_default-clause-ok : goal.returns-in_default-clause-ok
-returns-in_default-clause-ok c = from_all (λ m s.
+returns-in_default-clause-ok c = from_all (legal_by c.self.view_is c.self.invariant.legal) (λ m s.
     let z = c.self.inside.zero in
     let os = c.self.inside.sessions.items in
     let sid = c.args.sid in
@@ -83,7 +85,7 @@ take-requires-clause-fitting c =
     (subst (λ (cs : List Change). AreFitting (arc_value a.it.schema) cs) (sym changes) fit))
 
 pub returns-clause-ok : goal.returns-clause-ok
-returns-clause-ok c = from_all (λ m s.
+returns-clause-ok c = from_to (legal_by c.self.view_is c.self.invariant.legal) (λ m s.
     let z = c.self.inside.zero in
     let os = c.self.inside.sessions.items in
     let sid = c.args.sid in
@@ -100,7 +102,7 @@ returns-clause-ok c = from_all (λ m s.
     let same : c.take.new.self.zero ≡ z = c.in_ok-take.ensures.zero ∙ ap (λ (h : Held). h.zero) (sym c.self.view_is) in
     let left_there : leased c.take.new.self.zero.history c.top_uid-top.result c.len-count.result ≡ Some first = ap (λ (y : Zero). leased y.history c.top_uid-top.result c.len-count.result) same ∙ left in
     let taken = to_all c.in_ok-take.ensures.ok m s in
-    let then = to_all (c.lease.ensures first left_there) taken.0 taken.2 in
+    let then = c.lease.ensures first left_there in
     let changes : c.in_ok-changes.changes.items ≡ expanded (graph_at z.history a.it.start a.it.own) edges first = c.in_ok-changes.ensures ∙ (λ i. expanded (graph_at z.history (it i).start (it i).own) edges first) in
     let body : c.in_ok-body-2.body ≡ uids_text first (new_names edges) = c.in_ok-body-2.ensures ∙ ap (uids_text first) c.in_ok-names.ensures in
-    (then.0, added_here z os c.self.invariant sid c.args.place a m stood edges c.top_uid-top.result c.len-count.result some c.top_uid-top.ensures count first c.in_ok-changes.changes.items c.in_ok-body-2.body taken.0 then.0 left changes body taken.1 then.1, then.2))
+    (machine_of c.lease.new.self, added_here z os c.self.invariant sid c.args.place a m stood edges c.top_uid-top.result c.len-count.result some c.top_uid-top.ensures count first c.in_ok-changes.changes.items c.in_ok-body-2.body taken.0 (machine_of c.lease.new.self) left changes body taken.1 then, refl))

@@ -3,14 +3,15 @@ use Rattle.std.specs.List.{list_any}
 use Rattle.dg_zero.specs.Worlds.{schema, world}
 use Rattle.dg_node.specs.Alters.{has_directive, least_start, first_with_data, altered, declared}
 use Rattle.dg_node.specs.Kept.{Held}
-use Rattle.dg_node.proofs.Standing.{Stands, StandFor, from_all}
+use Rattle.dg_node.proofs.Standing.{Stands, StandFor}
 use Rattle.dg_node.proofs.AlterLemmas.{least_open, none_least, same_data}
 use Rattle.dg_node.proofs.LeadLemmas.{ok_led}
 use Rattle.dg_node.proofs.ReplyLemmas.{alter_pending, alter_has_data, altered_is}
+use Rattle.dg_node.proofs.Leading.{from_all, legal_by}
 use Rattle.dg_node.proofs.engine.Engine.alter.Goals as goal
 
 pub returns-in-Some-clause-ok : goal.returns-in-Some-clause-ok
-returns-in-Some-clause-ok c = from_all (λ m s.
+returns-in-Some-clause-ok c = from_all (legal_by c.self.view_is c.self.invariant.legal) (λ m s.
     let z = c.self.inside.zero in
     let os = c.self.inside.sessions.items in
     let stood : StandFor z os m = subst (λ (h : Held). Stands h m) (sym c.self.view_is) s in
@@ -19,7 +20,7 @@ returns-in-Some-clause-ok c = from_all (λ m s.
     (m, alter_pending m c.args.newer.now c.in-Some.start plain least, s))
 
 pub returns-in-Some-2-clause-ok : goal.returns-in-Some-2-clause-ok
-returns-in-Some-2-clause-ok c = from_all (λ m s.
+returns-in-Some-2-clause-ok c = from_all (legal_by c.self.view_is c.self.invariant.legal) (λ m s.
     let z = c.self.inside.zero in
     let os = c.self.inside.sessions.items in
     let stood : StandFor z os m = subst (λ (h : Held). Stands h m) (sym c.self.view_is) s in
@@ -36,7 +37,7 @@ returns-clause-ok c =
     let plain : list_any has_directive c.args.newer.now ≡ false = ap (list_any has_directive) (sym c.definitions.ensures.items) ∙ (sym c.has_directives.ensures ∙ c.if-has_directives.false) in
     let free : first_with_data (schema z.history) (world z.history).graph c.args.newer.now ≡ None =
     ap (first_with_data (schema z.history) (world z.history).graph) (sym c.definitions-2.ensures.items) ∙ (sym c.in_ok-pred.ensures ∙ c.in_default-2.is) in
-    ok_led c.declare.result c.args.self.now c.declare.new.self (λ p m n. declared m c.args.newer.now ≡ (p, n)) (λ p m n. altered m c.args.newer.now ≡ (p, n))
+    ok_led c.declare.result c.args.self.now c.declare.new.self (legal_by c.self.view_is c.self.invariant.legal) (λ p m n. declared m c.args.newer.now ≡ (p, n)) (λ p m n. altered m c.args.newer.now ≡ (p, n))
     (λ p m n s e.
     let stood : StandFor z os m = subst (λ (h : Held). Stands h m) (sym c.self.view_is) s in
     altered_is m c.args.newer.now plain (none_least z os m c.self.invariant stood c.in_default.ensures.none) (same_data z os m c.args.newer.now c.self.invariant stood ∙ free) ∙ e)

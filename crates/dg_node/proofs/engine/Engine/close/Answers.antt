@@ -3,9 +3,10 @@ use Rattle.std.specs.Prelude.{◌==◌, position}
 use Rattle.dg_node.specs.declared.engine.Opened.{Opened}
 use Rattle.dg_node.specs.Kept.{Held, IsKept}
 use Rattle.dg_node.specs.Machine.{without_session}
-use Rattle.dg_node.proofs.Standing.{Stands, StandFor, from_all}
+use Rattle.dg_node.proofs.Standing.{Stands, StandFor}
 use Rattle.dg_node.proofs.OneAmong.{around, around_place}
 use Rattle.dg_node.proofs.SessionLemmas.{own_active, closed_kept, closed_stands}
+use Rattle.dg_node.proofs.Leading.{from_all, legal_by}
 use Rattle.dg_node.proofs.engine.Engine.close.Goals as goal
 
 pub end-requires : goal.end-requires
@@ -24,7 +25,7 @@ invariant_of-self c =
     (closed_kept c.self.inside.zero os c.self.invariant a.0 c.args.place a.1 c.remove-opened.result c.remove-opened.ensures.value c.end.result c.end.new.self c.end.ensures.was_active c.end.ensures.history c.end.ensures.legal)
 
 pub returns : goal.returns
-returns c = λ sid at. from_all (λ m s.
+returns c = λ sid at. from_all (legal_by c.self.view_is c.self.invariant.legal) (λ m s.
     let os = c.self.inside.sessions.items in
     let here : position (λ (o : Opened). o.sid == sid) os ≡ Some c.args.place = subst (λ (h : Held). position (λ (o : Opened). o.sid == sid) h.opened ≡ Some c.args.place) (sym c.self.view_is) at in
     let stood : StandFor c.self.inside.zero os m = subst (λ (h : Held). Stands h m) (sym c.self.view_is) s in (

@@ -3,11 +3,12 @@ use Rattle.std.specs.Prelude.{◌==◌, position, slice_get, IfSome, Option}
 use Rattle.dg_zero.specs.Counters.{active, is_active_of}
 use Rattle.dg_node.specs.declared.engine.Opened.{Opened}
 use Rattle.dg_node.specs.Kept.{Held, IsKept}
-use Rattle.dg_node.proofs.Standing.{Stands, StandFor, from_all, stays_all}
+use Rattle.dg_node.proofs.Standing.{Stands, StandFor}
 use Rattle.dg_node.proofs.OneAmong.{around, it_is, get_is}
 use Rattle.dg_node.proofs.KeptLemmas.{active_here}
 use Rattle.dg_node.proofs.SessionLemmas.{looked_kept, looked_stand}
 use Rattle.dg_node.proofs.CommitSteps.{offer_active, done_kept, done_steps, conflict_kept, conflict_steps, moves_never, spent_reply}
+use Rattle.dg_node.proofs.Leading.{from_all, stays_all, legal_by}
 use Rattle.dg_node.proofs.engine.Engine.commit_at.Goals as goal
 use Rattle.dg_node.proofs.engine.Engine.commit_at.Goals.{in-Err-this-2+in-Conflict+in-Data+in-Some+in-Val+in-Text-1, in-Err-this-2+in-Conflict+in-Data+in-Some+in-Val+in-Int-1, in-Err-this-2+in-Conflict+in-Data+in-Some+in-Uid-1, in-Err-this-2+in-Conflict+in-Data+in-None-1, in-Err-this-2+in-Conflict+in-Index+in-Text-1, in-Err-this-2+in-Conflict+in-Index+in-Int-1, in-Err-this-2+in-Conflict+in-Count-1, in-Err-this-2+in-Conflict+in-RCount-1, in-Err-this-2+in-OutOfMemory-1, in-Ok-3}
 
@@ -148,7 +149,7 @@ invariant_of-self-in-OutOfMemory-this c =
     looked_kept c.self.inside.zero c.commit.new.self c.self.inside.sessions.items c.in_ok-slip.slip c.self.invariant fault.1 c.in-Err-OutOfMemory.ensures.legal
 
 pub returns-in-Ok-clause-ok : goal.returns-in-Ok-clause-ok
-returns-in-Ok-clause-ok c = from_all (λ m s.
+returns-in-Ok-clause-ok c = from_all (legal_by c.self.view_is c.self.invariant.legal) (λ m s.
     let z = c.self.inside.zero in
     let os = c.self.inside.sessions.items in
     let at : position (λ (o : Opened). o.sid == c.args.sid) os ≡ Some c.args.place = subst (λ (h : Held). position (λ (o : Opened). o.sid == c.args.sid) h.opened ≡ Some c.args.place) (sym c.self.view_is) c.requires.at in
@@ -160,7 +161,7 @@ returns-in-Ok-clause-ok c = from_all (λ m s.
     (steps.0, steps.1, subst (λ (l : List Opened). StandFor c.commit.new.self l steps.0) (sym c.remove.ensures.items) steps.2))
 
 pub returns-in-Err-Conflict-clause-ok : goal.returns-in-Err-Conflict-clause-ok
-returns-in-Err-Conflict-clause-ok c = from_all (λ m s.
+returns-in-Err-Conflict-clause-ok c = from_all (legal_by c.self.view_is c.self.invariant.legal) (λ m s.
     let z = c.self.inside.zero in
     let os = c.self.inside.sessions.items in
     let at : position (λ (o : Opened). o.sid == c.args.sid) os ≡ Some c.args.place = subst (λ (h : Held). position (λ (o : Opened). o.sid == c.args.sid) h.opened ≡ Some c.args.place) (sym c.self.view_is) c.requires.at in
@@ -175,7 +176,7 @@ returns-in-Err-Conflict-clause-ok c = from_all (λ m s.
     (steps.0, steps.1, subst (λ (h : Held). Stands h steps.0) (sym after) moved))
 
 pub returns-in-Err-Moving-clause-ok : goal.returns-in-Err-Moving-clause-ok
-returns-in-Err-Moving-clause-ok c = from_all (λ m s.
+returns-in-Err-Moving-clause-ok c = from_all (legal_by c.self.view_is c.self.invariant.legal) (λ m s.
     let z = c.self.inside.zero in
     let os = c.self.inside.sessions.items in
     let at : position (λ (o : Opened). o.sid == c.args.sid) os ≡ Some c.args.place = subst (λ (h : Held). position (λ (o : Opened). o.sid == c.args.sid) h.opened ≡ Some c.args.place) (sym c.self.view_is) c.requires.at in
@@ -184,7 +185,7 @@ returns-in-Err-Moving-clause-ok c = from_all (λ m s.
     absurd (moves_never z os c.self.invariant c.args.sid c.args.place a c.index.result.now c.index.ensures c.in_ok-offer.offer c.in_ok-offer.ensures c.in_ok-slip.slip c.in_ok-slip.ensures _ fault.0))
 
 pub returns-in-Err-TimestampsSpent-clause-ok : goal.returns-in-Err-TimestampsSpent-clause-ok
-returns-in-Err-TimestampsSpent-clause-ok c = from_all (λ m s.
+returns-in-Err-TimestampsSpent-clause-ok c = from_all (legal_by c.self.view_is c.self.invariant.legal) (λ m s.
     let z = c.self.inside.zero in
     let os = c.self.inside.sessions.items in
     let at : position (λ (o : Opened). o.sid == c.args.sid) os ≡ Some c.args.place = subst (λ (h : Held). position (λ (o : Opened). o.sid == c.args.sid) h.opened ≡ Some c.args.place) (sym c.self.view_is) c.requires.at in
@@ -199,7 +200,7 @@ returns-in-Err-TimestampsSpent-clause-ok c = from_all (λ m s.
     ))
 
 pub returns-in-Err-OutOfMemory-clause-err : goal.returns-in-Err-OutOfMemory-clause-err
-returns-in-Err-OutOfMemory-clause-err c = stays_all c.args.self.now (record { zero = c.commit.new.self; opened = c.self.inside.sessions.items }) (λ m s.
+returns-in-Err-OutOfMemory-clause-err c = stays_all c.args.self.now (record { zero = c.commit.new.self; opened = c.self.inside.sessions.items }) (legal_by c.self.view_is c.self.invariant.legal) (λ m s.
     let stood : StandFor c.self.inside.zero c.self.inside.sessions.items m = subst (λ (h : Held). Stands h m) (sym c.self.view_is) s in
     let fault = rw c.in-Err-OutOfMemory.field-0-is at c.in-Err-OutOfMemory.ensures.fault in
     looked_stand c.self.inside.zero c.commit.new.self c.self.inside.sessions.items m c.in_ok-slip.slip fault.1 stood)

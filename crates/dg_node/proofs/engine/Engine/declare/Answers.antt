@@ -8,11 +8,12 @@ use Rattle.dg_zero.specs.Worlds.{schema, world}
 use Rattle.dg_node.specs.Alters.{first_with_data}
 use Rattle.dg_node.specs.Kept.{Held, IsKept}
 use Rattle.dg_node.specs.Machine.{Machine}
-use Rattle.dg_node.proofs.Standing.{Stands, StandFor, from_all}
+use Rattle.dg_node.proofs.Standing.{Stands, StandFor}
 use Rattle.dg_node.proofs.KeptLemmas.{altered_kept}
 use Rattle.dg_node.proofs.AlterLemmas.{plain_all, no_alter_parts, kinds_kept, held_nowhere}
 use Rattle.dg_node.proofs.StandLemmas.{stand_alter}
 use Rattle.dg_node.proofs.ReplyLemmas.{declared_is}
+use Rattle.dg_node.proofs.Leading.{from_all, legal_by}
 use Rattle.dg_node.proofs.engine.Engine.declare.Goals as goal
 
 pub alter-requires-clause-parts : goal.alter-requires-clause-parts
@@ -36,7 +37,7 @@ invariant_of-self c =
     (altered_kept z os c.args.newer.now c.new-2.result c.self.invariant c.in-Ok.ensures.none_active (plain_all c.args.newer.now c.requires.plain) (subst (λ (w : Zero). IsLegal w.groups w.history) is c.in-Ok.ensures.legal))
 
 pub returns-in-Ok-clause-ok : goal.returns-in-Ok-clause-ok
-returns-in-Ok-clause-ok c = from_all (λ m s.
+returns-in-Ok-clause-ok c = from_all (legal_by c.self.view_is c.self.invariant.legal) (λ m s.
     let z = c.self.inside.zero in
     let os = c.self.inside.sessions.items in
     let stood : StandFor z os m = subst (λ (h : Held). Stands h m) (sym c.self.view_is) s in

@@ -11,10 +11,11 @@ use Rattle.dg_node.specs.declared.engine.Opened.{Opened}
 use Rattle.dg_node.specs.Kept.{Held}
 use Rattle.dg_node.specs.Machine.{Machine, session_of}
 use Rattle.dg_node.specs.Mutations.{added, MutatesBy}
-use Rattle.dg_node.proofs.Standing.{Stands, StandFor, from_all}
+use Rattle.dg_node.proofs.Standing.{Stands, StandFor}
 use Rattle.dg_node.proofs.OneAmong.{around, it_is}
 use Rattle.dg_node.proofs.LeadLemmas.{ok_led}
 use Rattle.dg_node.proofs.MutationLemmas.{of_session, by_checked, unless_memory}
+use Rattle.dg_node.proofs.Leading.{from_all, legal_by}
 use Rattle.dg_node.proofs.engine.Engine.mutate.Goals as goal
 
 pub returns-in-Ok-clause-ok : goal.returns-in-Ok-clause-ok
@@ -28,14 +29,14 @@ returns-in-Ok-clause-ok c =
     let it : c.index.result.now ≡ a.it = it_is (λ (o : Opened). o.sid) sid os c.args.place a c.index.result.now c.index.ensures in
     let declared : c.deref.result.now ≡ arc_value a.it.schema = c.deref.ensures ∙ ap (λ (o : Opened). arc_value o.schema) it in
     let resolves : Resolves (arc_value a.it.schema) statements (Ok c.in-Ok.resolved) = subst (λ (ds : List PredDef). Resolves ds statements (Ok c.in-Ok.resolved)) declared (unless_memory (Resolves c.deref.result.now statements) c.resolve.result (Ok c.in-Ok.resolved) c.in-Ok.is c.resolve.ensures) in
-    ok_led c.add.result c.args.self.now c.add.new.self (λ (p : Reply) (m n : Machine). IsSomeAnd (session_of m sid) (λ s. added m s c.in-Ok.resolved ≡ (p, n))) (λ (p : Reply) (m n : Machine). IsSomeAnd (session_of m sid) (λ s. MutatesBy m s statements p n))
+    ok_led c.add.result c.args.self.now c.add.new.self (legal_by c.self.view_is c.self.invariant.legal) (λ (p : Reply) (m n : Machine). IsSomeAnd (session_of m sid) (λ s. added m s c.in-Ok.resolved ≡ (p, n))) (λ (p : Reply) (m n : Machine). IsSomeAnd (session_of m sid) (λ s. MutatesBy m s statements p n))
     (λ p m n stood i.
     let here : StandFor z os m = subst (λ (h : Held). Stands h m) (sym c.self.view_is) stood in
     by_checked z os c.self.invariant sid c.args.place a m here statements (Ok c.in-Ok.resolved) p n resolves (of_session z os c.self.invariant sid c.args.place a m here (λ s. added m s c.in-Ok.resolved ≡ (p, n)) i))
     c.add.ensures.ok
 
 pub returns-in-Err-NoPredicate-clause-ok : goal.returns-in-Err-NoPredicate-clause-ok
-returns-in-Err-NoPredicate-clause-ok c = rw c.in-Err-NoPredicate.field-0-is (from_all (λ m s.
+returns-in-Err-NoPredicate-clause-ok c = rw c.in-Err-NoPredicate.field-0-is (from_all (legal_by c.self.view_is c.self.invariant.legal) (λ m s.
     let z = c.self.inside.zero in
     let os = c.self.inside.sessions.items in
     let sid = c.args.sid in
@@ -50,7 +51,7 @@ returns-in-Err-NoPredicate-clause-ok c = rw c.in-Err-NoPredicate.field-0-is (fro
     (m, by_checked z os c.self.invariant sid c.args.place a m here statements fault _ m resolves refl, s)))
 
 pub returns-in-Err-WrongObject-clause-ok : goal.returns-in-Err-WrongObject-clause-ok
-returns-in-Err-WrongObject-clause-ok c = rw c.in-Err-WrongObject.field-0-is (from_all (λ m s.
+returns-in-Err-WrongObject-clause-ok c = rw c.in-Err-WrongObject.field-0-is (from_all (legal_by c.self.view_is c.self.invariant.legal) (λ m s.
     let z = c.self.inside.zero in
     let os = c.self.inside.sessions.items in
     let sid = c.args.sid in
@@ -65,7 +66,7 @@ returns-in-Err-WrongObject-clause-ok c = rw c.in-Err-WrongObject.field-0-is (fro
     (m, by_checked z os c.self.invariant sid c.args.place a m here statements fault _ m resolves refl, s)))
 
 pub returns-in-Err-BadLiteral-clause-ok : goal.returns-in-Err-BadLiteral-clause-ok
-returns-in-Err-BadLiteral-clause-ok c = rw c.in-Err-BadLiteral.field-0-is (from_all (λ m s.
+returns-in-Err-BadLiteral-clause-ok c = rw c.in-Err-BadLiteral.field-0-is (from_all (legal_by c.self.view_is c.self.invariant.legal) (λ m s.
     let z = c.self.inside.zero in
     let os = c.self.inside.sessions.items in
     let sid = c.args.sid in

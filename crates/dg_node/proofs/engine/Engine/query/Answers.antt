@@ -11,20 +11,21 @@ use Rattle.dg_node.specs.declared.engine.Opened.{Opened}
 use Rattle.dg_node.specs.Answers.{shown, block_of}
 use Rattle.dg_node.specs.Kept.{Held}
 use Rattle.dg_node.specs.Queries.{answered}
-use Rattle.dg_node.proofs.Standing.{Stands, StandFor, from_all}
+use Rattle.dg_node.proofs.Standing.{Stands, StandFor}
 use Rattle.dg_node.proofs.OneAmong.{around, it_is}
 use Rattle.dg_node.proofs.TextLemmas.{predicate_text}
 use Rattle.dg_node.proofs.KeptLemmas.{active_here}
 use Rattle.dg_node.proofs.SessionLemmas.{none_open_here, open_here}
 use Rattle.dg_node.proofs.ReplyLemmas.{no_query, queried_is}
 use Rattle.dg_node.proofs.QueryLemmas.{answer_here, text_answered}
+use Rattle.dg_node.proofs.Leading.{from_sessions, legal_by}
 use Rattle.dg_node.proofs.engine.Engine.query.Goals as goal
 
 pub returns-in_default : goal.returns-in_default
-returns-in_default c = from_all (λ m s.
+returns-in_default c = from_sessions (λ m s.
     let held = c.args.self.now in
     let none : position (λ (o : Opened). o.sid == c.args.sid) held.opened ≡ None = sym c.place_of.ensures.place ∙ c.in_default.is in
-    (m, no_query m c.args.sid (none_open_here held.zero held.opened m c.args.sid s none) c.args.uid c.args.name.now ∙ ap (λ (r : Reply). (r, m)) (sym c.no_session.ensures), s))
+    no_query m c.args.sid (none_open_here held.opened m c.args.sid s none) c.args.uid c.args.name.now ∙ ap (λ (r : Reply). (r, m)) (sym c.no_session.ensures))
 
 pub text_of-requires : goal.text_of-requires
 text_of-requires c = predicate_text c.args.name.now c.requires.name
@@ -51,7 +52,7 @@ returns c =
     let made : c.as_slice.result.now ≡ block =
     c.as_slice.ensures.value ∙ (c.in_ok-block.ensures
     ∙ (λ i. block_of (p i) (shown (definition_of (schema_at z.history (it i).start) (p i)) (objects (graph_at z.history (it i).start (it i).own) (p i) c.args.uid)))) in
-    text_answered c.answer.result c.args.self.now c.args.sid c.args.uid name (answer_text c.as_slice.result.now)
+    text_answered c.answer.result c.args.self.now (legal_by c.self.view_is c.self.invariant.legal) c.args.sid c.args.uid name (answer_text c.as_slice.result.now)
     (λ m s.
     let stood : StandFor z os m = subst (λ (h : Held). Stands h m) (sym c.self.view_is) s in
     queried_is m c.args.sid a.it (open_here z os c.self.invariant c.args.sid c.in-Some.place a m stood) a.is c.args.uid name

@@ -6,15 +6,16 @@ use Rattle.dg_zero.specs.declared.entry.Event.TheVariants.{Begin}
 use Rattle.dg_node.specs.declared.engine.Opened.{Opened}
 use Rattle.dg_node.specs.Kept.{Held, IsKept}
 use Rattle.dg_node.specs.Machine.{with_session, drawn}
-use Rattle.dg_node.proofs.Standing.{Stands, StandFor, from_all}
+use Rattle.dg_node.proofs.Standing.{Stands, StandFor}
 use Rattle.dg_node.proofs.OneAmong.{none_has}
 use Rattle.dg_node.proofs.KeptLemmas.{opened_kept}
 use Rattle.dg_node.proofs.SessionLemmas.{looked_kept, looked_stand, none_open_here, stand_begun}
 use Rattle.dg_node.proofs.ReplyLemmas.{begun_is, begin_spent, begun_already, some_open, not_some}
+use Rattle.dg_node.proofs.Leading.{from_all, legal_by}
 use Rattle.dg_node.proofs.engine.Engine.try_begin.Goals as goal
 
 pub returns-then-is_some-clause-ok : goal.returns-then-is_some-clause-ok
-returns-then-is_some-clause-ok c = from_all (λ m s.
+returns-then-is_some-clause-ok c = from_all (legal_by c.self.view_is c.self.invariant.legal) (λ m s.
     let stood : StandFor c.self.inside.zero c.self.inside.sessions.items m = subst (λ (h : Held). Stands h m) (sym c.self.view_is) s in
     let found : c.place_of.result ≡ position (λ (o : Opened). o.sid == c.args.sid) c.self.inside.sessions.items = subst (λ (h : Held). c.place_of.result ≡ position (λ (o : Opened). o.sid == c.args.sid) h.opened) (sym c.self.view_is) c.place_of.ensures.place in
     let there : is_some c.place_of.result ≡ true = sym c.is_some.ensures ∙ c.if-is_some.true in (
@@ -35,7 +36,7 @@ invariant_of-self-in-Ok c =
     (none_has (λ (p : Opened). p) (λ (p : Opened). p.sid) c.args.sid os none))
 
 pub returns-in-Ok-clause-ok : goal.returns-in-Ok-clause-ok
-returns-in-Ok-clause-ok c = from_all (λ m s.
+returns-in-Ok-clause-ok c = from_all (legal_by c.self.view_is c.self.invariant.legal) (λ m s.
     let z = c.self.inside.zero in
     let os = c.self.inside.sessions.items in
     let stood : StandFor z os m = subst (λ (h : Held). Stands h m) (sym c.self.view_is) s in
@@ -49,7 +50,7 @@ returns-in-Ok-clause-ok c = from_all (λ m s.
     let is : c.begin.new.self ≡ and_then z 0 (Begin c.in-Ok.begun.start) = c.in-Ok.ensures.ok ∙ (λ i. and_then z (slip i) (Begin (back i))) in
     let own : c.new-in-Ok.result ≡ [] = c.new-in-Ok.ensures in (
       with_session (drawn m (m.next + 1)) c.args.sid m.next,
-      begun_is m c.args.sid c.in-Ok.begun.start (none_open_here z os m c.args.sid stood none) (subst (λ (n : ℕ). n < 2 ^ 62) (sym stood.next_is) c.in-Ok.ensures.not_spent) (start ∙ sym stood.next_is),
+      begun_is m c.args.sid c.in-Ok.begun.start (none_open_here os m c.args.sid stood.sessions_are none) (subst (λ (n : ℕ). n < 2 ^ 62) (sym stood.next_is) c.in-Ok.ensures.not_spent) (start ∙ sym stood.next_is),
       subst (λ (l : List Opened). StandFor c.begin.new.self l (with_session (drawn m (m.next + 1)) c.args.sid m.next)) (sym items)
           (subst (λ (w : Zero). StandFor w (os ++ o ∷ []) (with_session (drawn m (m.next + 1)) c.args.sid m.next)) (sym is)
           (stand_begun z os m c.args.sid c.in-Ok.begun.start o stood start (λ i. record { sid = c.args.sid; start = c.in-Ok.begun.start; own = own i }))),
@@ -61,7 +62,7 @@ invariant_of-self-in-Err-TimestampsSpent c =
     (looked_kept c.self.inside.zero c.begin.new.self c.self.inside.sessions.items c.in_ok-slip.slip c.self.invariant c.in-Err-TimestampsSpent.ensures.err c.in-Err-TimestampsSpent.ensures.legal)
 
 pub returns-in-Err-TimestampsSpent-clause-ok : goal.returns-in-Err-TimestampsSpent-clause-ok
-returns-in-Err-TimestampsSpent-clause-ok c = from_all (λ m s.
+returns-in-Err-TimestampsSpent-clause-ok c = from_all (legal_by c.self.view_is c.self.invariant.legal) (λ m s.
     let z = c.self.inside.zero in
     let os = c.self.inside.sessions.items in
     let stood : StandFor z os m = subst (λ (h : Held). Stands h m) (sym c.self.view_is) s in
@@ -70,7 +71,7 @@ returns-in-Err-TimestampsSpent-clause-ok c = from_all (λ m s.
     let fault = rw c.in-Err-TimestampsSpent.field-0-is at c.in-Err-TimestampsSpent.ensures.fault in (
       m,
       rw c.in-Err-TimestampsSpent.field-0-is
-          (begin_spent m c.args.sid c.in-Err-TimestampsSpent.next (none_open_here z os m c.args.sid stood none) (stood.next_is ∙ fault.1) (fault.0 ∙ sym stood.next_is)),
+          (begin_spent m c.args.sid c.in-Err-TimestampsSpent.next (none_open_here os m c.args.sid stood.sessions_are none) (stood.next_is ∙ fault.1) (fault.0 ∙ sym stood.next_is)),
       subst (λ (l : List Opened). StandFor c.begin.new.self l m) (sym c.reserve.ensures.items) (looked_stand z c.begin.new.self os m c.in_ok-slip.slip c.in-Err-TimestampsSpent.ensures.err stood),
     ))
 

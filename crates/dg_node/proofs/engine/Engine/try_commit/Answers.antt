@@ -8,21 +8,22 @@ use Rattle.dg_node.specs.Kept.{Held}
 use Rattle.dg_node.specs.Machine.{Session}
 use Rattle.dg_node.specs.Transactions.{HasChanges}
 use Rattle.dg_node.specs.State.{machine_of}
-use Rattle.dg_node.proofs.Standing.{Stands, StandFor, from_all, to_all}
+use Rattle.dg_node.proofs.Standing.{Stands, StandFor}
 use Rattle.dg_node.proofs.OneAmong.{around, it_is}
 use Rattle.dg_node.proofs.SessionLemmas.{none_open_here, open_here, open_now}
 use Rattle.dg_node.proofs.LeadLemmas.{on_any}
 use Rattle.dg_node.proofs.ReplyLemmas.{no_commit, nothing_committed}
+use Rattle.dg_node.proofs.Leading.{from_to, from_sessions, to_all, legal_by}
 use Rattle.dg_node.proofs.engine.Engine.try_commit.Goals as goal
 
 pub returns-in-None-clause-ok : goal.returns-in-None-clause-ok
-returns-in-None-clause-ok c = from_all (λ m s.
+returns-in-None-clause-ok c = from_sessions (λ m s.
     let held = c.args.self.now in
     let none : position (λ (o : Opened). o.sid == c.args.sid) held.opened ≡ None = sym c.place_of.ensures.place ∙ c.in-None.is in
-    (m, no_commit m c.args.sid (none_open_here held.zero held.opened m c.args.sid s none) ∙ ap (λ (r : Reply). (r, m)) (sym c.no_session.ensures), s))
+    no_commit m c.args.sid (none_open_here held.opened m c.args.sid s none) ∙ ap (λ (r : Reply). (r, m)) (sym c.no_session.ensures))
 
 pub returns-in-Some-clause-ok : goal.returns-in-Some-clause-ok
-returns-in-Some-clause-ok c = from_all (λ m s.
+returns-in-Some-clause-ok c = from_to (legal_by c.self.view_is c.self.invariant.legal) (λ m s.
     let z = c.self.inside.zero in
     let os = c.self.inside.sessions.items in
     let here : position (λ (o : Opened). o.sid == c.args.sid) c.args.self.now.opened ≡ Some c.in-Some.place = sym c.place_of.ensures.place ∙ c.in-Some.is in

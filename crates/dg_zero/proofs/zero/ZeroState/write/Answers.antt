@@ -35,10 +35,10 @@ pub returns-in-Err-clause-legal : goal.returns-in-Err-clause-legal
 returns-in-Err-clause-legal c = rw c.append.ensures (look_keeps c.self.inside.groups c.self.inside.oracle c.self.inside.next_uid (arc_value c.self.inside.schema) c.self.inside.tablets.items (arc_value c.self.inside.owners) (entries c.self.inside.past) c.args.slip c.self.invariant).legal
 
 pub invariant_of-self-in-Ok : goal.invariant_of-self-in-Ok
-invariant_of-self-in-Ok c = rw (c.in-Ok.ensures.ok, c.requires.copied) (committed c.self.inside.groups c.self.inside.oracle c.self.inside.next_uid (arc_value c.self.inside.schema) c.self.inside.tablets.items (arc_value c.self.inside.owners) (entries c.self.inside.past) c.args.self.now.history (ap (λ (z : Zero). z.history) c.self.view_is) c.args.slip c.args.offer c.self.invariant c.requires.active (entries c.append-in-Ok.new.past) c.requires.judged c.in-Ok.ensures.not_spent c.requires.sound (c.append-in-Ok.ensures ∙ ap (λ (e : Event). and_entry (entries c.self.inside.past) c.args.slip e) (c.written-event.ensures ∙ ap (λ (ts : ℕ). commit_of c.args.offer ts) c.in-Ok.ensures.ts)))
+invariant_of-self-in-Ok c = rw (c.in-Ok.ensures.ok, c.requires.copied) (committed c.self.inside.groups c.self.inside.oracle c.self.inside.next_uid (arc_value c.self.inside.schema) c.self.inside.tablets.items (arc_value c.self.inside.owners) (entries c.self.inside.past) c.args.self.now.history (ap (λ (z : Zero). z.history) c.self.view_is) c.args.slip c.args.offer c.self.invariant c.requires.active (entries c.append-in-Ok.new.past) c.requires.judged c.in-Ok.ensures.not_spent c.requires.sound c.requires.made_of (c.append-in-Ok.ensures ∙ ap (λ (e : Event). and_entry (entries c.self.inside.past) c.args.slip e) (c.written-event.ensures ∙ ap (λ (ts : ℕ). commit_of c.args.offer ts) c.in-Ok.ensures.ts)))
 
 pub returns-clause-clear : goal.returns-clause-clear
 returns-clause-clear c = clear c.self.inside.groups c.self.inside.oracle c.self.inside.next_uid (arc_value c.self.inside.schema) c.self.inside.tablets.items (arc_value c.self.inside.owners) (entries c.self.inside.past) c.args.self.now.history (ap (λ (z : Zero). z.history) c.self.view_is) c.args.slip c.args.offer c.self.invariant c.requires.active c.requires.judged
 
 pub returns-clause-legal : goal.returns-clause-legal
-returns-clause-legal c = (committed c.self.inside.groups c.self.inside.oracle c.self.inside.next_uid (arc_value c.self.inside.schema) c.self.inside.tablets.items (arc_value c.self.inside.owners) (entries c.self.inside.past) c.args.self.now.history (ap (λ (z : Zero). z.history) c.self.view_is) c.args.slip c.args.offer c.self.invariant c.requires.active (entries c.append-in-Ok.new.past) c.requires.judged c.in-Ok.ensures.not_spent c.requires.sound (c.append-in-Ok.ensures ∙ ap (λ (e : Event). and_entry (entries c.self.inside.past) c.args.slip e) (c.written-event.ensures ∙ ap (λ (ts : ℕ). commit_of c.args.offer ts) c.in-Ok.ensures.ts))).legal
+returns-clause-legal c = (committed c.self.inside.groups c.self.inside.oracle c.self.inside.next_uid (arc_value c.self.inside.schema) c.self.inside.tablets.items (arc_value c.self.inside.owners) (entries c.self.inside.past) c.args.self.now.history (ap (λ (z : Zero). z.history) c.self.view_is) c.args.slip c.args.offer c.self.invariant c.requires.active (entries c.append-in-Ok.new.past) c.requires.judged c.in-Ok.ensures.not_spent c.requires.sound c.requires.made_of (c.append-in-Ok.ensures ∙ ap (λ (e : Event). and_entry (entries c.self.inside.past) c.args.slip e) (c.written-event.ensures ∙ ap (λ (ts : ℕ). commit_of c.args.offer ts) c.in-Ok.ensures.ts))).legal
