@@ -1,6 +1,6 @@
 -- The objects of the subjects that are changed, before changes and after some.
 use Rattle.std.proofs.Common.{Result, Ok, Err, IfOk, ◌≡◌, ℕ, zero, suc, ◌+◌, ◌<◌, Bool, true, false, cond, List, [], ◌∷◌, ◌++◌, length, get_or, take, fold, map, refl, ap, subst, sym, ◌∙◌, arith, append_assoc}
-use Rattle.std.specs.Prelude.{OnOk}
+use Rattle.std.specs.Prelude.{OnOk, sum_by}
 use Rattle.std.specs.List.{AllByRecursion}
 use Rattle.std.proofs.Math.ListN.{set}
 use Rattle.std.proofs.lemmas.List.{take_more}
@@ -11,7 +11,7 @@ use Rattle.std.specs.Ordering.{is_eq}
 use Rattle.dg_values.specs.Ascending.{Ascends, has}
 use Rattle.dg_values.specs.Order.{posting_cmp}
 use Rattle.dg_values.proofs.OrderLaws.{posting_order}
-use Rattle.dg_sets.proofs.Sets.{is_itself, not_above, one_list}
+use Rattle.dg_sets.proofs.Sets.{is_itself, not_above, one_list, from_each, at, has_more}
 use Rattle.dg_delta.specs.declared.op.Op.{Op}
 use Rattle.dg_delta.specs.Ops.{changes_between}
 use Rattle.dg_schema.specs.declared.definition.PredDef.{PredDef}
@@ -27,8 +27,8 @@ use Rattle.dg_keys.specs.declared.record.Part.{Part}
 use Rattle.dg_keys.specs.Keys.{key_cmp}
 use Rattle.dg_keys.specs.KeyOrder.{key_order}
 use Rattle.dg_zero.specs.Listings.{listing}
-use Rattle.dg_edges.specs.Deltas.{and_part, parts_at, gains, data_key, IsPlain, AreFitting}
-use Rattle.dg_edges.specs.Lists.{Lists, objects_at, unchanged_at, changed_at, lists_after}
+use Rattle.dg_edges.specs.Deltas.{and_part, parts_at, gains, data_key, data_keys, IsPlain, AreFitting}
+use Rattle.dg_edges.specs.Lists.{Lists, objects_at, reads_at, unchanged_at, changed_at, lists_after}
 use Rattle.dg_edges.proofs.EdgeLaws.{listed_by, other_same, gains_none, listing_ascends}
 use Rattle.dg_edges.proofs.OfferLaws.{lawful_goal}
 
@@ -41,6 +41,31 @@ ok_with (Err e) P Q f p = p
 pub on_ok_with : {T E : Type 0} (r : Result T E) (P Q : Type 0) → (P → Q) → OnOk r P → OnOk r Q
 on_ok_with (Ok v) P Q f p = f p
 on_ok_with (Err e) P Q f p = p
+
+pub on_ok_all : {T E : Type 0} (r : Result T E) {P : Type 0} → P → OnOk r P
+on_ok_all (Ok v) p = p
+on_ok_all (Err e) p = tt
+
+-- ---- how many lists are read
+
+-- the key is of a subject's objects, which are one list
+abbrev IsOneRead : Key → Type 0
+IsOneRead key = reads_at key ≡ 1
+
+all_data : (cs : List Change) → AllByRecursion IsOneRead (map data_key cs)
+all_data [] = tt
+all_data (c ∷ cs) = (refl, all_data cs)
+
+all_one : (ks : List Key) → AllByRecursion IsOneRead ks → sum_by reads_at ks ≡ length ks
+all_one [] a = refl
+all_one (k ∷ ks) a = let rest = all_one ks a.1 in omega (arith, a.0, rest)
+
+-- as many as subjects are changed
+pub all_read : (cs : List Change) → sum_by reads_at (data_keys cs) ≡ length (data_keys cs)
+all_read cs =
+    all_one (data_keys cs)
+    (from_each key_cmp key_order IsOneRead (data_keys cs)
+    (λ key h. at key_cmp key_order IsOneRead (map data_key cs) key (all_data cs) (sym (has_more key_cmp key_order [] (map data_key cs) key) ∙ h)))
 
 -- ---- a change leaves the objects at other keys
 

@@ -1,5 +1,5 @@
 -- The changes that a checked mutation stands for, and the nodes that it names.
-use Rattle.std.specs.Prelude.{ℕ, ◌+◌, max, Bool, List, [], ◌∷◌, ◌++◌, if◌then◌else◌, fold, map, flat_map}
+use Rattle.std.specs.Prelude.{ℕ, ◌+◌, max, Bool, List, [], ◌∷◌, ◌++◌, if◌then◌else◌, fold, map, flat_map, sum_by}
 use Rattle.std.specs.List.{list_any, position_or_len}
 use Rattle.dg_values.specs.Order.{same_text}
 use Rattle.dg_values.specs.declared.value.Posting.TheVariants as postings
@@ -62,6 +62,15 @@ changes_by graph number delete s p All = map (λ o. Del (record { s = s; p = p; 
 -- the changes of one statement
 abbrev pub changes_in : List Triple → (Named → ℕ) → Edge → List Change
 changes_in graph number edge = changes_by graph number edge.delete (number edge.s) edge.p edge.o
+
+-- how many lists are read for what stands at the object's place: one for `*`
+abbrev pub reads_by : Target → ℕ
+reads_by All = 1
+reads_by target = 0
+
+-- how many lists are read for statements
+abbrev pub lists_read : List Edge → ℕ
+lists_read edges = sum_by (λ e. reads_by e.o) edges
 
 -- the changes of statements in their order, over the graph before all of them
 abbrev pub expanded : List Triple → List Edge → ℕ → List Change

@@ -1,5 +1,5 @@
 -- The objects of subjects, before changes and after some.
-use Rattle.std.specs.Prelude.{List, [], fold}
+use Rattle.std.specs.Prelude.{ℕ, List, [], fold}
 use Rattle.dg_values.specs.declared.value.Posting.{Posting}
 use Rattle.dg_schema.specs.declared.definition.PredDef.{PredDef}
 use Rattle.dg_graph.specs.declared.change.Triple.{Triple}
@@ -18,6 +18,11 @@ pub record Lists : Type 0 where
 abbrev pub objects_at : List Triple → Key → List Posting
 objects_at graph (Data p s) = objects graph p s
 objects_at graph key = []
+
+-- how many lists are read for the objects at a key
+abbrev pub reads_at : Key → ℕ
+reads_at (Data p s) = 1
+reads_at key = 0
 
 -- before changes and after none
 abbrev pub unchanged_at : List Triple → Key → Lists

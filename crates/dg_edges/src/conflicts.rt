@@ -37,7 +37,7 @@ fn conflicts_of(alloc: Global, schema: &Schema, changes: &[Change]) -> Mem<Vec<C
     Ok(in_order(keys))
 }
 
-/// The keys by which changes conflict, ascending and each once. The error is want of memory.
+/// The keys by which changes conflict, ascending and each once. It reads no list. The error is want of memory.
 pub fn conflict_keys<S: Snapshot, L: Ledger>(
     alloc: Global,
     snap: &S,
@@ -46,7 +46,8 @@ pub fn conflict_keys<S: Snapshot, L: Ledger>(
 ) -> Mem<Vec<ConflictKey>>
     requires plain { IsPlain (S.declared snap.now) }
     requires fitting { AreFitting (S.declared snap.now) changes.now }
-    ensures { IfOk result (λ v. v.items ≡ listings.conflict_keys (S.declared snap.now) (S.graph snap.now) changes.now) }
+    ensures keys { IfOk result (λ v. v.items ≡ listings.conflict_keys (S.declared snap.now) (S.graph snap.now) changes.now) }
+    ensures reads { _reads.new ≡ _reads.old }
 {
     conflicts_of(alloc, snap.schema(), changes)
 }

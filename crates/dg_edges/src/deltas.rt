@@ -1,12 +1,12 @@
 // What changes make of posting lists, as parts.
-ghost use Rattle.std.specs.Prelude.{◌≡◌, ◌++◌, [], IfOk, map, length};
+ghost use Rattle.std.specs.Prelude.{◌≡◌, ◌+◌, ◌++◌, [], IfOk, OnOk, map, length};
 ghost use Rattle.dg_values.specs.Ascending.{Ascends};
 ghost use Rattle.dg_values.specs.Order.{posting_cmp};
 ghost use Rattle.dg_delta.specs.Ops.{changes_between};
 ghost use Rattle.dg_graph.specs.Graphs.{after_changes, IsLawful};
 ghost use Rattle.dg_keys.specs.declared.key.Key.{Key};
 ghost use Rattle.dg_zero.specs.Listings.{AreGainsAndLosses};
-ghost use Rattle.dg_edges.specs.Deltas.{and_part, parts_at, deltas, IsPlain, AreFitting};
+ghost use Rattle.dg_edges.specs.Deltas.{and_part, parts_at, data_keys, deltas, IsPlain, AreFitting};
 ghost use Rattle.dg_edges.specs.Lists.{Lists};
 
 use crate::between::between;
@@ -64,6 +64,7 @@ pub fn deltas_of<S: Snapshot, L: Ledger>(
     requires fitting { AreFitting (S.declared snap.now) changes.now }
     requires lawful { IsLawful (S.declared snap.now) (S.graph snap.now) }
     ensures parts { IfOk result (λ v. v.items ≡ deltas (S.declared snap.now) (S.graph snap.now) changes.now) }
+    ensures reads { OnOk result (reads.new ≡ reads.old + length (data_keys changes.now)) }
     ensures exact { IfOk result (λ v. AreGainsAndLosses (S.declared snap.now) (S.graph snap.now) (S.declared snap.now) (after_changes (S.declared snap.now) (S.graph snap.now) changes.now) v.items) }
 {
     let keys = keys_of(alloc, changes)?;

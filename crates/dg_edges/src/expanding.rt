@@ -2,7 +2,7 @@
 ghost use Rattle.std.specs.Prelude.{◌≡◌, ◌+◌, ◌<◌, ◌^◌, ◌++◌, IfOk, OnOk, length, map};
 ghost use Rattle.dg_values.specs.declared.value.Posting.{Posting};
 ghost use Rattle.dg_graph.specs.declared.change.Change.TheVariants as kinds;
-ghost use Rattle.dg_edges.specs.Expanding.{new_names, number_of, change_of, changes_in, expanded};
+ghost use Rattle.dg_edges.specs.Expanding.{new_names, number_of, change_of, changes_in, expanded, reads_by, lists_read};
 
 use crate::names::{Names, names_of};
 use crate::{Edge, Named, Resolved, Target};
@@ -22,7 +22,8 @@ pub fn expand<S: Snapshot, L: Ledger>(
     reads: &mut Steps<L>,
 ) -> Mem<Vec<Change>>
     requires room { first + length (new_names r.now) < 2 ^ 64 }
-    ensures { IfOk result (λ changes. changes.items ≡ expanded (S.graph snap.now) r.now first) }
+    ensures changes { IfOk result (λ changes. changes.items ≡ expanded (S.graph snap.now) r.now first) }
+    ensures reads { OnOk result (reads.new ≡ reads.old + lists_read r.now) }
 {
     let edges = r.edges.as_slice();
     let names = names_of(alloc, edges)?;
@@ -83,7 +84,8 @@ fn push_changes<S: Snapshot, L: Ledger>(
     reads: &mut Steps<L>,
 ) -> Mem<()>
     requires room { first + length names.now < 2 ^ 64 }
-    ensures { OnOk result (changes.new.items ≡ changes.old.items ++ changes_in (S.graph snap.now) (number_of names.now first) edge.now) }
+    ensures changes { OnOk result (changes.new.items ≡ changes.old.items ++ changes_in (S.graph snap.now) (number_of names.now first) edge.now) }
+    ensures reads { OnOk result (reads.new ≡ reads.old + reads_by edge.now.o) }
 {
     let s = number(names, first, &edge.s);
     let o = match &edge.o {

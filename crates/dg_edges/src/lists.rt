@@ -1,12 +1,12 @@
 // The objects of the subjects that are changed, before changes and after some.
-ghost use Rattle.std.specs.Prelude.{◌≡◌, List, IfOk, OnOk, map, length};
+ghost use Rattle.std.specs.Prelude.{◌≡◌, ◌+◌, List, IfOk, OnOk, map, length, sum_by};
 ghost use Rattle.dg_values.specs.Ascending.{Ascends};
 ghost use Rattle.dg_values.specs.Order.{posting_cmp};
 ghost use Rattle.dg_graph.specs.Graphs.{triple_cmp};
 ghost use Rattle.dg_keys.specs.declared.key.Key.{Key};
 ghost use Rattle.dg_keys.specs.Keys.{key_cmp};
 ghost use Rattle.dg_edges.specs.Deltas.{data_key, data_keys};
-ghost use Rattle.dg_edges.specs.Lists.{Lists, objects_at, unchanged_at, changed_at, lists_after};
+ghost use Rattle.dg_edges.specs.Lists.{Lists, objects_at, reads_at, unchanged_at, changed_at, lists_after};
 
 use dg_graph::{Change, Snapshot, change_objects};
 use dg_keys::Key;
@@ -94,7 +94,8 @@ fn objects_at<S: Snapshot, L: Ledger>(
     key: &Key,
     reads: &mut Steps<L>,
 ) -> Mem<Vec<Posting>>
-    ensures { IfOk result (λ v. v.items ≡ objects_at (S.graph snap.now) key.now) }
+    ensures items { IfOk result (λ v. v.items ≡ objects_at (S.graph snap.now) key.now) }
+    ensures reads { OnOk result (reads.new ≡ reads.old + reads_at key.now) }
 {
     match key {
         Key::Data { p, s } => snap.objects(alloc, p.as_str(), *s, reads),
@@ -110,7 +111,8 @@ fn unchanged<S: Snapshot, L: Ledger>(
     reads: &mut Steps<L>,
 ) -> Mem<Objects>
     requires ascend { Ascends triple_cmp (S.graph snap.now) }
-    ensures { IfOk result (λ o. o ≡ unchanged_at (S.graph snap.now) key.now) }
+    ensures lists { IfOk result (λ o. o ≡ unchanged_at (S.graph snap.now) key.now) }
+    ensures reads { OnOk result (reads.new ≡ reads.old + reads_at key.now) }
 {
     let before = objects_at(alloc, snap, key, reads)?;
     let after = copies(alloc, before.as_slice())?;
@@ -125,7 +127,8 @@ fn all_unchanged<S: Snapshot, L: Ledger>(
     reads: &mut Steps<L>,
 ) -> Mem<Vec<Objects>>
     requires ascend { Ascends triple_cmp (S.graph snap.now) }
-    ensures { IfOk result (λ v. v.items ≡ map (unchanged_at (S.graph snap.now)) keys.now) }
+    ensures lists { IfOk result (λ v. v.items ≡ map (unchanged_at (S.graph snap.now)) keys.now) }
+    ensures reads { OnOk result (reads.new ≡ reads.old + sum_by reads_at keys.now) }
 {
     let mut lists = Vec::with_capacity(alloc, keys.len())?;
     for key in keys {
@@ -181,7 +184,8 @@ pub fn lists_of<S: Snapshot, L: Ledger>(
 ) -> Mem<Vec<Objects>>
     requires graph { Ascends triple_cmp (S.graph snap.now) }
     requires ascend { Ascends key_cmp keys.now }
-    ensures { IfOk result (λ v. v.items ≡ map (lists_after (S.declared snap.now) (S.graph snap.now) changes.now) keys.now) }
+    ensures lists { IfOk result (λ v. v.items ≡ map (lists_after (S.declared snap.now) (S.graph snap.now) changes.now) keys.now) }
+    ensures reads { OnOk result (reads.new ≡ reads.old + sum_by reads_at keys.now) }
 {
     let mut lists = all_unchanged(alloc, snap, keys, reads)?;
     for change in changes {

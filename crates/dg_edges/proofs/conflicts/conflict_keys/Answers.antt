@@ -6,8 +6,8 @@ use Rattle.dg_edges.specs.Deltas.{data_conflicts}
 use Rattle.dg_edges.proofs.OfferLaws.{keys_stay}
 use Rattle.dg_edges.proofs.conflicts.conflict_keys.Goals as goal
 
-pub returns : goal.returns
-returns g c =
+pub returns-clause-keys : goal.returns-clause-keys
+returns-clause-keys g c =
     let graph = g.S.Snapshot.graph c.args.snap.now in
     let schema = g.S.Snapshot.declared c.args.snap.now in
     let e = (λ i. ascending conflict_cmp (data_conflicts (c.schema.ensures i) c.args.changes.now)) ∙ sym (keys_stay schema graph c.args.changes.now c.requires.plain c.requires.fitting) in

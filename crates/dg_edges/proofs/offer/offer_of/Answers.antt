@@ -14,7 +14,7 @@ returns-clause-sound g c some =
     let schema = g.S.Snapshot.declared c.args.snap.now in
     let changes = c.args.changes.now in
     let preds : c.from_vec-preds.result ≡ preds_of changes = c.from_vec-preds.ensures ∙ c.in_ok-preds_of.ensures in
-    let keys : c.from_vec-keys.result ≡ conflict_keys schema graph changes = c.from_vec-keys.ensures ∙ c.in_ok-conflict_keys.ensures in
+    let keys : c.from_vec-keys.result ≡ conflict_keys schema graph changes = c.from_vec-keys.ensures ∙ c.in_ok-conflict_keys.ensures.keys in
     let parts : c.from_vec-parts.result ≡ deltas schema graph changes = c.from_vec-parts.ensures ∙ c.in_ok-deltas_of.ensures.parts in
     let sound = offers_are_sound schema graph changes some c.requires.plain c.requires.fitting c.requires.lawful in
     subst (λ (ps : List (List ℕ)). IsSound schema graph ps c.from_vec-keys.result c.from_vec-parts.result) (sym preds)
@@ -27,7 +27,7 @@ returns-clause-made_of g c =
     let schema = g.S.Snapshot.declared c.args.snap.now in
     let changes = c.args.changes.now in
     let asked : c.from_vec-asked.result ≡ changes = c.from_vec-asked.ensures ∙ c.in_ok-copies.ensures in
-    let keys : c.from_vec-keys.result ≡ conflict_keys schema graph changes = c.from_vec-keys.ensures ∙ c.in_ok-conflict_keys.ensures in
+    let keys : c.from_vec-keys.result ≡ conflict_keys schema graph changes = c.from_vec-keys.ensures ∙ c.in_ok-conflict_keys.ensures.keys in
     let parts : c.from_vec-parts.result ≡ deltas schema graph changes = c.from_vec-parts.ensures ∙ c.in_ok-deltas_of.ensures.parts in
     let made = offers_are_made schema graph changes c.requires.plain c.requires.fitting c.requires.lawful in
     subst (λ (cs : List Change). IsMadeOf schema graph cs c.from_vec-keys.result c.from_vec-parts.result) (sym asked)
