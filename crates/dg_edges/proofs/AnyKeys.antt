@@ -68,13 +68,14 @@ data_among P schema graph (c ∷ cs) fit a =
 -- and of changes that may not fit, of the key of a triple of a declared predicate
 pub data_found : (P : ConflictKey → Type 0) (schema : List PredDef) (graph : List Triple) (cs : List Change) (u : Triple) (def : PredDef) → definition_of schema u.p ≡ Some def → AllByRecursion P (keys_of_changes schema graph cs) → has conflict_cmp (data_conflicts schema cs) (data_conflict schema u) ≡ true → P (data_conflict schema u)
 data_found P schema graph [] u def e a h = absurd (cc)
-data_found P schema graph (c ∷ cs) u def e a h = by (is_eq (conflict_cmp (data_conflict schema (changed c)) (data_conflict schema u))) refl h
+data_found P schema graph (c ∷ cs) u def e a h =
+    by (is_eq (conflict_cmp (data_conflict schema (changed c)) (data_conflict schema u))) refl h (λ g. data_found P schema (after_change schema graph c) cs u def e (later_keys P schema graph c cs a) g)
   where
     same_pred : data_conflict schema (changed c) ≡ data_conflict schema u → (changed c).p ≡ u.p
     same_pred k = cc
 
-    by : (v : Bool) → is_eq (conflict_cmp (data_conflict schema (changed c)) (data_conflict schema u)) ≡ v → (v || has conflict_cmp (data_conflicts schema cs) (data_conflict schema u)) ≡ true → P (data_conflict schema u)
-    by true k g =
+    by : (v : Bool) → is_eq (conflict_cmp (data_conflict schema (changed c)) (data_conflict schema u)) ≡ v → (v || has conflict_cmp (data_conflicts schema cs) (data_conflict schema u)) ≡ true → (has conflict_cmp (data_conflicts schema cs) (data_conflict schema u) ≡ true → P (data_conflict schema u)) → P (data_conflict schema u)
+    by true k g rest =
         let one = is_one conflict_cmp conflict_order (data_conflict schema (changed c)) (data_conflict schema u) k in
         subst P one (its_key P schema graph c def (ap (definition_of schema) (same_pred one) ∙ e) cs a)
-    by false k g = data_found P schema (after_change schema graph c) cs u def e (later_keys P schema graph c cs a) g
+    by false k g rest = rest g

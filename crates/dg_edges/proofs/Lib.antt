@@ -7,6 +7,7 @@ pub mod PartsStay
 pub mod AnyKeys
 pub mod SoundParts
 pub mod CommitsSince
+pub mod PlainHistories
 pub mod BetweenLaws
 pub mod ListLaws
 pub mod ExpandLaws

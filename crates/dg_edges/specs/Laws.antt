@@ -13,12 +13,12 @@ use Rattle.dg_keys.specs.declared.key.Key.TheVariants.{Data}
 use Rattle.dg_keys.specs.declared.record.Part.{Part}
 use Rattle.dg_keys.specs.declared.record.Record.{Record}
 use Rattle.dg_keys.specs.Keys.{ops_at}
-use Rattle.dg_zero.specs.Worlds.{changes_of, world, schema}
+use Rattle.dg_zero.specs.Worlds.{changes_of, world, schema, schema_at}
 use Rattle.dg_keys.specs.Conflicts.{conflict_cmp}
 use Rattle.dg_zero.specs.Listings.{AreGainsAndLosses, conflict_keys, listing}
 use Rattle.dg_zero.specs.declared.entry.Entry.{Entry}
 use Rattle.dg_zero.specs.declared.entry.Event.TheVariants.{Commit}
-use Rattle.dg_zero.specs.Exact.{IsExactNow}
+use Rattle.dg_zero.specs.Exact.{AreExact, IsExactNow}
 use Rattle.dg_zero.specs.Legal.{FitsCommit, IsLegal}
 use Rattle.dg_zero.specs.Offers.{IsSound, IsMadeOf}
 use Rattle.dg_nquad.specs.declared.mutation.Statement.{Statement}
@@ -101,6 +101,10 @@ DataPartsAreExact = (n : ℕ) (history : List Entry) (author start : ℕ) (preds
 -- and at each key of any kind, where no definition has an index, reverse or count
 abbrev pub CommitsAreExact : Type 0
 CommitsAreExact = (n : ℕ) (history : List Entry) (author start : ℕ) (preds : List (List ℕ)) (keys : List ConflictKey) (asked : List Change) (written : Record) → IsLegal n history → IsPlain (schema history) → FitsCommit history author start preds keys asked written → IsExactNow history (Commit start preds keys asked written)
+
+-- so all records of a legal history are, where no definition at any timestamp has an index, reverse or count
+abbrev pub PlainHistoriesAreExact : Type 0
+PlainHistoriesAreExact = (n : ℕ) (history : List Entry) → IsLegal n history → ((at : ℕ) → IsPlain (schema_at history at)) → AreExact history
 
 -- what a sound offer's data parts put in fits the schema, whatever its other keys; so they keep a later graph lawful
 abbrev pub SoundFits : Type 0

@@ -20,7 +20,7 @@ pub use deltas::deltas_of;
 pub use edge::{Edge, Named, Resolved, Target};
 pub use expanding::expand;
 pub use fault::EdgeFault;
-pub use laws::{changes_as_parts, commits_as_changes, mutations, offers};
+pub use laws::{changes_as_parts, commits_as_changes, mutations, offers, plain_histories};
 pub use offer::offer_of;
 pub use plain::{are_fitting, is_plain};
 pub use resolving::resolve;

@@ -17,3 +17,11 @@ pub mod EmptyOffers
 pub mod SeenEvents
 pub mod SeenObjects
 pub mod PresentTriples
+pub mod OneParts
+pub mod ExactRecords
+pub mod DeclaredTablets
+pub mod LookUps
+pub mod StandingCopies
+pub mod LowMarks
+pub mod SharedCopies
+pub mod TabletsAndCopies

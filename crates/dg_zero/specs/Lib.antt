@@ -8,9 +8,11 @@ pub mod Offers
 pub mod Legal
 pub mod Exact
 pub mod Laws
+pub mod ExactLaws
 pub mod Pasts
 pub mod Records
 pub mod States
+pub mod TabletLaws
 pub mod Altering
 pub mod Seen
 pub mod Present

@@ -23,7 +23,9 @@ mod zero;
 
 pub use entry::{Entry, Event, Reason};
 pub use fault::{CommitFault, ZeroFault};
-pub use laws::{each_history, longer_histories, schemas_of_starts};
+pub use laws::{
+    each_history, exact_records, longer_histories, schemas_of_starts, tablets_and_copies,
+};
 pub use offer::Offer;
 pub use owners::Owners;
 pub use past::Slip;
