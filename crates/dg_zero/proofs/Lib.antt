@@ -16,4 +16,5 @@ pub mod Streams
 pub mod EmptyOffers
 pub mod SeenEvents
 pub mod SeenObjects
+pub mod SpentTimestamps
 pub mod PresentTriples
