@@ -16,6 +16,7 @@ pub mod Streams
 pub mod EmptyOffers
 pub mod SeenEvents
 pub mod SeenObjects
+pub mod SpentTimestamps
 pub mod PresentTriples
 pub mod OneParts
 pub mod ExactRecords

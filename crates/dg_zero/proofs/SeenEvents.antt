@@ -36,6 +36,10 @@ seen_world h at declared events s e =
 
 -- ---- one entry more
 
+pub events_later : (h more : List Entry) (at : ℕ) → events_upto (h ++ more) at ≡ events_upto h at ++ events_upto more at
+events_later h more at =
+    ap (filter (is_upto at)) (map-append (λ (e : Entry). e.event) h more) ∙ filter-append (is_upto at) (map (λ (e : Entry). e.event) h) (map (λ (e : Entry). e.event) more)
+
 pub events_push : (h : List Entry) (e : Entry) (at : ℕ) → events_upto (h ++ e ∷ []) at ≡ events_upto h at ++ where_upto at e.event
 events_push h e at =
     ap (filter (is_upto at)) (map-append (λ (e : Entry). e.event) h (e ∷ []))

@@ -9,10 +9,11 @@ use std::alloc::Global;
 use std::marker::Model;
 use std::mem;
 
-// The entries so far. A chain of many is let go in a loop, since each box's own drop would recurse.
+// The entries so far. At the foot stands how many timestamps were drawn before, which are seen and take no memory. A chain of
+// many is let go in a loop, since each box's own drop would recurse.
 #[derive(Debug)]
 pub enum Past {
-    Empty,
+    Spent(u64),
     After(Box<Past>, Entry),
 }
 
@@ -20,7 +21,7 @@ impl Drop for Past {
     fn drop(mut self) {
         loop {
             match self {
-                Past::Empty => return,
+                Past::Spent(_) => return,
                 Past::After(before, _) => self = Box::into_inner(before),
             }
         }
@@ -47,7 +48,7 @@ impl Slip {
     pub fn new(alloc: Global, author: u32) -> Mem<Slip>
         ensures { IfOk result (λ slip. slip ≡ author) }
     {
-        let room = Box::new(alloc, Past::Empty)?;
+        let room = Box::new(alloc, Past::Spent(0))?;
         Ok(Slip { author, room })
     }
 }
@@ -57,6 +58,6 @@ pub fn append(past: &mut Past, slip: Slip, event: Event)
     ensures { entries past.new ≡ and_entry (entries past.old) slip event }
 {
     let Slip { author, mut room } = slip;
-    *room = mem::replace(past, Past::Empty);
+    *room = mem::replace(past, Past::Spent(0));
     *past = Past::After(room, Entry { author, event });
 }

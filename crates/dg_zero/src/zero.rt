@@ -1,9 +1,10 @@
 // The state, and the calls that begin, end and read.
-ghost use Rattle.std.specs.Prelude.{◌≡◌, ◌^◌, ◌<◌, ◌≤◌, [], true, IfOk, IfErr, OnOk, OnErr, option_copied, if◌then◌else◌};
+ghost use Rattle.std.specs.Prelude.{◌≡◌, ◌-◌, ◌^◌, ◌<◌, ◌≤◌, [], true, IfOk, IfErr, OnOk, OnErr, option_copied, if◌then◌else◌};
 ghost use Rattle.std.specs.Arc.{arc_value};
 ghost use Rattle.dg_oracle.specs.Commits.{is_active};
 ghost use Rattle.dg_zero.specs.Counters.{next, active, starts_of, is_active_of};
 ghost use Rattle.dg_zero.specs.Legal.{IsLegal};
+ghost use Rattle.dg_zero.specs.Pasts.{spent};
 ghost use Rattle.dg_zero.specs.Records.{next_record};
 ghost use Rattle.dg_zero.specs.States.{and_then, owners, IsBeginFault};
 ghost use Rattle.dg_zero.specs.Worlds.{schema};
@@ -72,15 +73,27 @@ impl ZeroState {
         requires most { groups ≤ 16 }
         ensures new { IfOk result (λ z. z ≡ record { groups = groups; history = [] }) }
     {
+        ZeroState::starting_at(alloc, groups, 1)
+    }
+
+    /// So many groups, and `next` is the next timestamp: those below it were drawn already, by transactions that changed
+    /// nothing. Their entries are seen, and take no memory.
+    pub fn starting_at(alloc: Global, groups: u32, next: u64) -> Mem<ZeroState>
+        requires least { 1 ≤ groups }
+        requires most { groups ≤ 16 }
+        requires first { 1 ≤ next }
+        requires last { next ≤ 2 ^ 62 }
+        ensures new { IfOk result (λ z. z ≡ record { groups = groups; history = spent (next - 1) }) }
+    {
         Ok(ZeroState {
             alloc,
             groups,
-            oracle: Oracle::starting_at(alloc, 1)?,
+            oracle: Oracle::starting_at(alloc, next)?,
             next_uid: 1,
             schema: Arc::new(alloc, Schema::new(alloc))?,
             tablets: Vec::new(alloc),
             owners: Arc::new(alloc, Owners::none(alloc))?,
-            past: Past::Empty,
+            past: Past::Spent(next - 1),
         })
     }
 

@@ -6,6 +6,7 @@ use Rattle.dg_zero.specs.declared.entry.Entry.{Entry}
 use Rattle.dg_zero.specs.Pasts.{entries}
 use Rattle.dg_zero.specs.Records.{record_of, records, next_record, first_of, ts_of}
 use Rattle.dg_zero.proofs.Streams.{next_record_push, first_of_three, ascend_before, none_past}
+use Rattle.dg_zero.proofs.SpentTimestamps.{next_record_at_foot}
 use Rattle.dg_zero.proofs.stream.record_after.Goals as goal
 
 pub loop-rest-preserved : goal.loop-rest-preserved
@@ -25,3 +26,6 @@ returns-then-is_past c =
     let at : entries c.loop-rest.rest.now ≡ entries c.in-After.before.value ++ c.in-After.entry ∷ [] = ap entries c.in-After.is in
     let none : next_record (entries c.loop-rest.rest.now) c.args.after ≡ None = ap (λ (h : List Entry). next_record h c.args.after) at ∙ none_past (entries c.in-After.before.value) c.in-After.entry.author c.in-After.entry.event c.args.after (sym c.is_past.ensures ∙ c.if-is_past.true) (subst (λ (h : List Entry). Ascends 0 (map ts_of (records h))) at c.loop-rest.invariant.1) in
     ap (λ (o : Option Record). first_of o (option_copied c.loop-rest.found)) (sym none) ∙ c.loop-rest.invariant.0
+
+pub returns : goal.returns
+returns c = ap (λ (o : Option Record). first_of o (option_copied c.loop-rest.found)) (sym (next_record_at_foot c.loop-rest.rest.now _ c.args.after c.in_default.is)) ∙ c.loop-rest.invariant.0
