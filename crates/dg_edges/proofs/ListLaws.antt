@@ -4,7 +4,7 @@ use Rattle.std.specs.Prelude.{OnOk, sum_by}
 use Rattle.std.specs.List.{AllByRecursion}
 use Rattle.std.proofs.Math.ListN.{set}
 use Rattle.std.proofs.lemmas.List.{take_more}
-use Rattle.std.proofs.lemmas.List.Sums.{fold-append}
+use Rattle.std.proofs.lemmas.List.Sums.{fold-append, sum_by-cons}
 use Rattle.std.proofs.lemmas.Bool.{both_ways, or_parts}
 use Rattle.std.specs.declared.cmp.Ordering.TheVariants.{Less}
 use Rattle.std.specs.Ordering.{is_eq}
@@ -58,7 +58,7 @@ all_data (c ∷ cs) = (refl, all_data cs)
 
 all_one : (ks : List Key) → AllByRecursion IsOneRead ks → sum_by reads_at ks ≡ length ks
 all_one [] a = refl
-all_one (k ∷ ks) a = let rest = all_one ks a.1 in omega (arith, a.0, rest)
+all_one (k ∷ ks) a = let rest = all_one ks a.1 in let first = sum_by-cons reads_at k ks in omega (arith, a.0, rest, first)
 
 -- as many as subjects are changed
 pub all_read : (cs : List Change) → sum_by reads_at (data_keys cs) ≡ length (data_keys cs)
