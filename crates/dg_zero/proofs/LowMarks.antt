@@ -1,5 +1,5 @@
 -- Each copy was merged up to the line at most.
-use Rattle.std.proofs.Common.{◌≡◌, sym, subst, arith, ℕ, ◌≤◌, List, [], ◌∷◌, ◌++◌, Bool, true, false, not, cond, map}
+use Rattle.std.proofs.Common.{sym, subst, arith, ℕ, ◌≤◌, List, [], ◌∷◌, ◌++◌, Bool, true, false, not, cond, map}
 use Rattle.std.specs.Prelude.{Option, Some, None, filter, option_map, unwrap_or}
 use Rattle.std.specs.List.{AllByRecursion}
 use Rattle.dg_sets.proofs.Sets.{all_with, all_passed}

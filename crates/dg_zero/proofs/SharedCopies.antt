@@ -1,6 +1,6 @@
 -- While a start is active, the owners' copies that were there when it began can be read at it.
 use Rattle.std.proofs.Common.{◌≡◌, ◌≢◌, ◌∙◌, sym, ap, subst, refl, arith, ℕ, ◌≤◌, ◌<◌, List, [], ◌∷◌, ◌++◌, Bool, true, false, not, cond, fold, map, append_assoc}
-use Rattle.std.specs.Prelude.{◌&&◌, ◌||◌, ◌==◌, nat_lt, Option, Some, None, IfSome, IsSomeAnd, filter, option_map}
+use Rattle.std.specs.Prelude.{◌&&◌, ◌||◌, ◌==◌, Option, Some, None, IfSome, IsSomeAnd, filter}
 use Rattle.std.specs.List.{AllByRecursion, list_any}
 use Rattle.std.specs.declared.cmp.Ordering.{Ordering}
 use Rattle.std.specs.declared.cmp.Ordering.TheVariants.{Less, Equal, Greater}
@@ -19,11 +19,11 @@ use Rattle.dg_zero.specs.declared.entry.Event.TheVariants.{Begin, Commit, Refuse
 use Rattle.dg_zero.specs.declared.tablets.Phase.{Phase}
 use Rattle.dg_zero.specs.declared.tablets.Phase.TheVariants.{Idle, Started, Copied, Held}
 use Rattle.dg_zero.specs.declared.tablets.Place.{Place}
-use Rattle.dg_zero.specs.Counters.{Started as IsStarted, active, active_after, ended, is_active_of, last, line, next, starts_of}
+use Rattle.dg_zero.specs.Counters.{Started as IsStarted, active, active_after, is_active_of, line, next, starts_of}
 use Rattle.dg_zero.specs.Legal.{Fits, IsLegal}
 use Rattle.dg_zero.specs.Places.{Copy, Places, places, places_after, tablets, copies, copy_at, is_copy_at, place_of, at_rest, in_phase, on_copy, on_place, mark_at, with_image, with_until, without_image, has_image, is_kept_by, phase_by}
-use Rattle.dg_zero.specs.States.{tablet_of, owners_of, owners}
-use Rattle.dg_zero.specs.TabletLaws.{HasCopy, IsReadableAt, begin_of, SharedCopiesStay}
+use Rattle.dg_zero.specs.States.{tablet_of, owners}
+use Rattle.dg_zero.specs.TabletLaws.{IsReadableAt, begin_of, SharedCopiesStay}
 use Rattle.dg_zero.proofs.Histories.{next_push, active_push, places_push, legal_push}
 use Rattle.dg_zero.proofs.LawsOfHistories.{legal_parts, kept_from, anyone, line_stays_below, line_push}
 use Rattle.dg_zero.proofs.LookUps.{ends, merged, ends_keeps, merged_keeps, if_mapped, is_mapped, is_with, found_too, some_passed, some_joined, same_number, place_is_of, place_on, copy_on, copy_off}

@@ -1,5 +1,5 @@
 -- How copies stand to tablets in legal histories.
-use Rattle.std.proofs.Common.{◌≡◌, ◌≢◌, ◌∙◌, sym, ap, subst, refl, arith, ℕ, ◌≤◌, List, [], ◌∷◌, ◌++◌, Bool, true, false, not, cond, map, append_assoc, inl, inr}
+use Rattle.std.proofs.Common.{◌≡◌, ◌≢◌, ◌∙◌, sym, ap, subst, refl, arith, ℕ, List, [], ◌∷◌, ◌++◌, Bool, true, false, not, cond, map, append_assoc, inl, inr}
 use Rattle.std.specs.Prelude.{◌⊎◌, ◌&&◌, ◌||◌, ◌==◌, Option, Some, None, IfSome, IsSomeAnd, filter, option_map}
 use Rattle.std.specs.List.{AllByRecursion, list_any}
 use Rattle.std.specs.Option.{option_or}
@@ -25,7 +25,7 @@ use Rattle.dg_zero.specs.TabletLaws.{AreOnce, AreApart, HasCopy}
 use Rattle.dg_zero.proofs.DeclaredTablets.{any_on}
 use Rattle.dg_zero.proofs.Histories.{places_push}
 use Rattle.dg_zero.proofs.LawsOfHistories.{kept_from, anyone}
-use Rattle.dg_zero.proofs.LookUps.{all_on, ends, merged, ends_keeps, merged_keeps, if_mapped, is_mapped, none_passes, none_is_found, some_passed, none_passed, some_joined, none_joined, IsAt, copy_is_at, place_is_of, KeepsPred, KeepsAt, place_kept, copy_kept, place_on, copy_on, other_on, copy_off}
+use Rattle.dg_zero.proofs.LookUps.{all_on, ends, merged, ends_keeps, merged_keeps, if_mapped, is_mapped, none_passes, none_is_found, some_passed, none_passed, some_joined, none_joined, place_is_of, KeepsPred, KeepsAt, place_kept, copy_kept, place_on, copy_on, other_on, copy_off}
 
 -- ---- what is kept
 

@@ -1,9 +1,8 @@
 -- Tablets, their owners and copies in legal histories.
-use Rattle.std.proofs.Common.{◌≡◌, subst, ℕ, ◌≤◌, List, [], ◌∷◌, true}
+use Rattle.std.proofs.Common.{◌≡◌, subst, ◌≤◌, List, [], ◌∷◌, true}
 use Rattle.std.specs.Prelude.{Option, Some, IfSome}
 use Rattle.std.specs.List.{AllByRecursion, list_any}
 use Rattle.dg_sets.proofs.Sets.{all_with}
-use Rattle.dg_zero.specs.declared.entry.Entry.{Entry}
 use Rattle.dg_zero.specs.declared.tablets.Place.{Place}
 use Rattle.dg_zero.specs.Counters.{line}
 use Rattle.dg_zero.specs.Places.{Copy, copies, is_place_of, place_of, tablets}
