@@ -21,7 +21,7 @@ pub(crate) fn apply_ranked(
     ensures after { IfOk result (λ list. list.items ≡ after_ops postings.items ops.now) }
     ensures ascend { IfOk result (λ list. Ascends posting_cmp list.items) }
 {
-    let mut list = Vec::with_capacity(alloc, postings.len())?;
+    let mut list = Vec::with_capacity(alloc, postings.len().max(ops.len()))?;
     let mut done = 0;
     for posting in postings {
         done = put_next(alloc, &mut list, posting, ops, done)?;

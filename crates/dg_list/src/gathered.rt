@@ -43,8 +43,7 @@ fn newest_ops<'a>(mut ops: Vec<Ranked<'a>>) -> Mem<Vec<Ranked<'a>>>
     Ok(ops)
 }
 
-// The postings after operations that were gathered. Those that stay are moved, and of those put in only values
-// are copied.
+// The postings after operations that were gathered. Those that stay are moved, and of those put in only values are copied.
 pub(crate) fn after_gathered(
     alloc: Global,
     postings: Vec<Posting>,
