@@ -6,8 +6,9 @@ ghost use Rattle.dg_delta.specs.Ops.{op_cmp};
 ghost use Rattle.dg_list.specs.Lists.{ops_upto};
 ghost use Rattle.dg_list.specs.Gathered.{SayAlike, there_by};
 
-use crate::ranked::{Ranked, unranked};
-use dg_delta::{Layer, Op, apply_owned, put_in};
+use crate::applying::apply_ranked;
+use crate::ranked::Ranked;
+use dg_delta::{Layer, Op, put_in};
 use dg_values::{Mem, OutOfMemory, Posting};
 use std::alloc::Global;
 
@@ -42,7 +43,7 @@ fn newest_ops<'a>(mut ops: Vec<Ranked<'a>>) -> Mem<Vec<Ranked<'a>>>
     Ok(ops)
 }
 
-// The postings after operations that were gathered. Those that stay are moved, and only those put in are copied.
+// The postings after operations that were gathered. Those that stay are moved, and of those put in only values are copied.
 pub(crate) fn after_gathered(
     alloc: Global,
     postings: Vec<Posting>,
@@ -55,9 +56,8 @@ pub(crate) fn after_gathered(
     if ops.is_empty() {
         return Ok(postings);
     }
-    let ranked = newest_ops(ops)?;
-    let newest = unranked(alloc, ranked.as_slice())?;
-    apply_owned(alloc, postings, newest.as_slice())
+    let newest = newest_ops(ops)?;
+    apply_ranked(alloc, postings, newest.as_slice())
 }
 
 // The list where a layer stands alone below operations that were gathered. Without these it is what the layer puts in.

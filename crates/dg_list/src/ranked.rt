@@ -1,6 +1,8 @@
 // Operations with what they are sorted by first.
-ghost use Rattle.std.specs.Prelude.{◌≡◌, IfOk, map};
-ghost use Rattle.dg_delta.specs.Ops.{op_cmp};
+ghost use Rattle.std.specs.Prelude.{◌≡◌, ◌++◌, IfOk, OnOk};
+ghost use Rattle.dg_values.specs.Order.{posting_cmp};
+ghost use Rattle.dg_delta.specs.Ops.{posting_of, op_cmp};
+ghost use Rattle.dg_delta.specs.Effects.{put_by};
 ghost use Rattle.dg_list.specs.Ranks.{IsRank};
 
 use dg_delta::Op;
@@ -9,52 +11,77 @@ use std::alloc::Global;
 use std::cmp::Ordering;
 use std::marker::Model;
 
-// An operation of a layer with the rank of its posting, so that most are sorted without a look at the layers, which lie apart
-// in memory. Contracts see the operation.
+// An operation of a layer with the rank of its posting and whether it puts that in, so that operations on nodes are sorted
+// and applied without a second look at the layers, which lie apart in memory. Contracts see the operation.
 #[derive(Drop)]
 pub(crate) struct Ranked<'a> {
     rank: u64,
+    set: bool,
     op: &'a Op,
 }
 
 impl<'a> Model for Ranked<'a> {
-    ghost use Rattle.dg_delta.specs.Ops.{posting_of};
     ghost use Rattle.dg_delta.specs.declared.op.Op.{Op};
-    ghost use Rattle.dg_list.specs.Ranks.{IsRank};
+    ghost use Rattle.dg_list.specs.Ranks.{AreKeptOf};
 
     ghost Value = { Op };
 
     ghost view = { λ ranked. ranked.op.now };
 
-    ghost invariant = { λ ranked. IsRank ranked.rank (posting_of ranked.op.now) };
+    ghost invariant = { λ ranked. AreKeptOf ranked.rank ranked.set ranked.op.now };
 }
 
 impl<'a> Ranked<'a> {
-    // The operation with its rank.
+    // The operation with what is kept beside it.
     pub(crate) fn new(op: &'a Op) -> Ranked<'a>
         ensures { result ≡ op.now }
     {
         Ranked {
             rank: rank(op.posting()),
+            set: op.is_set(),
             op,
         }
     }
 
-    // In the order of the postings: by rank, and where that ties by the postings themselves.
+    // In the order of the postings: by rank, and values by themselves.
     pub(crate) fn compare(&self, other: &Ranked<'a>) -> Ordering
         ensures { result ≡ op_cmp self.now other.now }
     {
-        match self.rank.cmp(&other.rank) {
-            Ordering::Equal => cmp_posting(self.op.posting(), other.op.posting()),
-            unlike => unlike,
+        if self.rank == u64::MAX && other.rank == u64::MAX {
+            return cmp_posting(self.op.posting(), other.op.posting());
         }
+        self.rank.cmp(&other.rank)
     }
 
-    // The operation alone.
-    fn op(&self) -> &'a Op
-        ensures { result.now ≡ self.now }
+    // In the order of the postings: by rank, and values by themselves.
+    pub(crate) fn compare_to(&self, posting: &Posting) -> Ordering
+        ensures { result ≡ posting_cmp (posting_of self.now) posting.now }
     {
-        self.op
+        let other = rank(posting);
+        if self.rank == u64::MAX && other == u64::MAX {
+            return cmp_posting(self.op.posting(), posting);
+        }
+        self.rank.cmp(&other)
+    }
+
+    // Adds at the end what is put in.
+    pub(crate) fn put_into(&self, alloc: Global, list: &mut Vec<Posting>) -> Mem<()>
+        ensures { OnOk result (list.new.items ≡ list.old.items ++ put_by self.now) }
+    {
+        if self.set {
+            list.push(self.posting(alloc)?)?;
+        }
+        Ok(())
+    }
+
+    // What is put in or taken out: a node by its rank, and a copy of a value.
+    fn posting(&self, alloc: Global) -> Mem<Posting>
+        ensures { IfOk result (λ posting. posting ≡ posting_of self.now) }
+    {
+        if self.rank == u64::MAX {
+            return self.op.posting().copy(alloc);
+        }
+        Ok(Posting::Uid(self.rank))
     }
 }
 
@@ -66,15 +93,4 @@ fn rank(posting: &Posting) -> u64
         Posting::Uid(node) => *node,
         Posting::Val(_) => u64::MAX,
     }
-}
-
-// The operations without their ranks.
-pub(crate) fn unranked<'a>(alloc: Global, ranked: &[Ranked<'a>]) -> Mem<Vec<&'a Op>>
-    ensures { IfOk result (λ ops. map (λ op. op.now) ops.items ≡ ranked.now) }
-{
-    let mut ops = Vec::with_capacity(alloc, ranked.len())?;
-    for one in ranked {
-        ops.push(one.op())?;
-    }
-    Ok(ops)
 }

@@ -1,4 +1,4 @@
-use Rattle.std.proofs.Common.{◌≡◌, ap, ◌∙◌, map}
+use Rattle.std.proofs.Common.{◌≡◌, ap, ◌∙◌}
 use Rattle.std.proofs.lemmas.Result.{IfOk-weaker}
 use Rattle.dg_values.specs.Ascending.{has}
 use Rattle.dg_values.specs.Order.{posting_cmp}
@@ -12,12 +12,11 @@ use Rattle.dg_list.proofs.gathered.after_gathered.Goals as goal
 pub returns-clause-after : goal.returns-clause-after
 returns-clause-after c =
     let postings = c.args.postings.items in
-    let newest = c.in_ok-ranked.ranked.items in
-    let same : map (λ op. op.now) c.as_slice-2.result.now ≡ newest = ap (map (λ op. op.now)) c.as_slice-2.ensures.value ∙ c.in_ok-newest.ensures ∙ c.as_slice.ensures.value in
-    IfOk-weaker c.apply_owned.result (λ list. list.items ≡ after_ops postings (map (λ op. op.now) c.as_slice-2.result.now)) (λ list. (q : Posting) → has posting_cmp list.items q ≡ there_by c.args.ops.items q (has posting_cmp postings q))
+    let newest = c.in_ok-newest.newest.items in
+    IfOk-weaker c.apply_ranked.result (λ list. list.items ≡ after_ops postings c.as_slice.result.now) (λ list. (q : Posting) → has posting_cmp list.items q ≡ there_by c.args.ops.items q (has posting_cmp postings q))
     (λ list is q.
-    ap (λ xs. has posting_cmp xs q) (is ∙ ap (after_ops postings) same)
+    ap (λ xs. has posting_cmp xs q) (is ∙ ap (after_ops postings) c.as_slice.ensures.value)
     ∙ has_after newest postings q
-    ∙ said_in_turn newest q (has posting_cmp postings q) c.in_ok-ranked.ensures.ascend
-    ∙ c.in_ok-ranked.ensures.alike q (has posting_cmp postings q))
-    c.apply_owned.ensures.after
+    ∙ said_in_turn newest q (has posting_cmp postings q) c.in_ok-newest.ensures.ascend
+    ∙ c.in_ok-newest.ensures.alike q (has posting_cmp postings q))
+    c.apply_ranked.ensures.after
