@@ -18,11 +18,11 @@ use Rattle.dg_node.specs.Steps.{Outcome, Spares, Step, TakesMemory}
 
 -- what follows from a step follows from where it leads
 pub leads_by : (before after : Held) (one other : Machine → Machine → Type 0) → ((m n : Machine) → one m n → other m n) → Leads before one after → Leads before other after
-leads_by before after one other f leads = f (machine_of before) (machine_of after) leads
+leads_by before after one other f leads = record { leads = f (machine_of before) (machine_of after) leads.leads }
 
 -- the engine stays, and so does the machine
 pub leads_nowhere : (before after : Held) (step : Machine → Machine → Type 0) → ((m : Machine) → step m m) → Stays before after → Leads before step after
-leads_nowhere before after step f stays = subst (λ (n : Machine). step (machine_of before) n) (sym stays) (f (machine_of before))
+leads_nowhere before after step f stays = record { leads = subst (λ (n : Machine). step (machine_of before) n) (sym stays) (f (machine_of before)) }
 
 spares_all : (r : Request) (m : Machine) → Spares r m m
 spares_all (requests.Begin sid) m = inl refl
@@ -33,8 +33,10 @@ step_made before after r p leads = leads_by before after (λ m n. Outcome m r p 
 
 pub step_spared : (before after : Held) (r : Request) → Stays before after → MayWant before r → Leads before (λ m n. Step m r (replies.Refused refusals.Memory) n) after
 step_spared before after r stays wants =
-    subst (λ (n : Machine). Step (machine_of before) r (replies.Refused refusals.Memory) n) (sym stays)
-    (inr (record { takes = wants; free = refl; spared = spares_all r (machine_of before) }))
+    record {
+      leads = subst (λ (n : Machine). Step (machine_of before) r (replies.Refused refusals.Memory) n) (sym stays)
+          (inr (record { takes = wants; free = refl; spared = spares_all r (machine_of before) }));
+    }
 
 -- the same for what is answered, if it is
 pub ok_by : {E : Type 0} (r : Result Reply E) (before after : Held) (one other : Reply → Machine → Machine → Type 0) → ((p : Reply) (m n : Machine) → one p m n → other p m n) → IfOk r (λ p. Leads before (one p) after) → IfOk r (λ p. Leads before (other p) after)

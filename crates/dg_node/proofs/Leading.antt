@@ -44,23 +44,23 @@ LeadsTo before step after = (m : Machine) → Stands before m → (n : Machine) 
 pub from_all : {before after : Held} {step : Machine → Machine → Type 0} → Legal before → LeadsAll before step after → Leads before step after
 from_all {before} {after} {step} l f =
     let r = f (machine_of before) (stands before l) in
-    subst (λ (n : Machine). step (machine_of before) n) (is_machine after r.0 r.2) r.1
+    record { leads = subst (λ (n : Machine). step (machine_of before) n) (is_machine after r.0 r.2) r.1 }
 
 pub from_to : {before after : Held} {step : Machine → Machine → Type 0} → Legal before → LeadsTo before step after → Leads before step after
 from_to {before} {after} {step} l f =
     let r = f (machine_of before) (stands before l) in
-    subst (λ (n : Machine). step (machine_of before) n) r.2 r.1
+    record { leads = subst (λ (n : Machine). step (machine_of before) n) r.2 r.1 }
 
 -- a step that looks at the open sessions alone, and changes nothing
 pub from_sessions : {held : Held} {step : Machine → Machine → Type 0} → ((m : Machine) → m.sessions ≡ map session_from held.opened → step m m) → Leads held step held
-from_sessions {held} {step} f = f (machine_of held) refl
+from_sessions {held} {step} f = record { leads = f (machine_of held) refl }
 
 pub to_all : {before after : Held} {step : Machine → Machine → Type 0} → Leads before step after → LeadsTo before step after
-to_all {before} {after} {step} l m s = (machine_of after, subst (λ (n : Machine). step n (machine_of after)) (sym (is_machine before m s)) l, refl)
+to_all {before} {after} {step} l m s = (machine_of after, subst (λ (n : Machine). step n (machine_of after)) (sym (is_machine before m s)) l.leads, refl)
 
 pub stays_all : (before after : Held) → Legal before → ((m : Machine) → Stands before m → Stands after m) → Stays before after
 stays_all before after l f = sym (is_machine after (machine_of before) (f (machine_of before) (stands before l)))
 
 -- the step from the machine that the engine stands for, and that for which it stands then
 pub led_from : {before after : Held} {step : Machine → Machine → Type 0} → Leads before step after → (m : Machine) → StandsFor before m → (n : Machine) × step m n × StandsFor after n
-led_from {before} {after} {step} l m s = (machine_of after, subst (λ (n : Machine). step n (machine_of after)) s l, refl)
+led_from {before} {after} {step} l m s = (machine_of after, subst (λ (n : Machine). step n (machine_of after)) s l.leads, refl)

@@ -1,6 +1,6 @@
 -- What a mutation is answered, case by case, and what its lease leads to.
 use Rattle.std.proofs.Common.{◌≡◌, ◌≢◌, ℕ, ◌+◌, ◌<◌, Bool, true, false, cond, arith, List, [], ◌∷◌, Option, Some, None, refl, ap, sym, subst, ◌∙◌}
-use Rattle.std.specs.Prelude.{◌==◌, length, Result, Ok, Err, IsSomeAnd, IfOk, IfErr, OnErr, is_some, position, find}
+use Rattle.std.specs.Prelude.{◌==◌, length, Result, Ok, Err, IsSomeAnd, IfOk, IfErr, OnErr, is_some, position, find, map}
 use Rattle.std.specs.Str.{IsUtf8, IsValidUpTo}
 use Rattle.std.proofs.lemmas.Grind.{common_steps}
 use Rattle.std.proofs.lemmas.Str.{utf8_valid_len-IsUtf8, utf8_valid_len-IsValidUpTo}

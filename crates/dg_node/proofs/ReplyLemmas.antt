@@ -1,6 +1,6 @@
 -- What the machine answers, case by case.
 use Rattle.std.proofs.Common.{◌≡◌, ◌≢◌, ℕ, ◌+◌, ◌<◌, ◌≤◌, ◌^◌, ◌-◌, true, false, List, [], ◌∷◌, ◌++◌, Option, Some, None, refl, ap, sym, ◌∙◌, arith}
-use Rattle.std.specs.Prelude.{◌==◌, nat_lt, is_some, position, find}
+use Rattle.std.specs.Prelude.{◌==◌, nat_lt, is_some, position, find, map}
 use Rattle.std.specs.List.{list_any}
 use Rattle.std.proofs.lemmas.Grind.{common_steps}
 use Rattle.dg_schema.specs.declared.definition.PredDef.{PredDef}

@@ -70,8 +70,8 @@ abbrev pub HistoriesAgree : Type 0
 HistoriesAgree = (groups : ℕ) (history : List Entry) → IsLegal groups history → Agrees groups history
 
 -- the step leads from the machine before to the machine after
-abbrev pub Leads : Held → (Machine → Machine → Type 0) → Held → Type 0
-Leads before step after = step (machine_of before) (machine_of after)
+pub record Leads (before : Held) (step : Machine → Machine → Type 0) (after : Held) : Type 0 where
+  pub leads : step (machine_of before) (machine_of after)
 
 -- the machine stays
 abbrev pub Stays : Held → Held → Type 0

@@ -13,8 +13,8 @@ pub returns-in-Some : goal.returns-in-Some
 returns-in-Some c =
     let held = c.args.self.now in
     let here : position (λ (o : Opened). o.sid == c.args.sid) held.opened ≡ Some c.in-Some.at = sym c.place_of.ensures.place ∙ c.in-Some.is in
-    let back = sym (c.close.ensures c.args.sid here) in
-    discarded_is held.opened (machine_of held) c.args.sid c.in-Some.at refl here ∙ (λ i. (replies.Discard c.args.sid, back i))
+    let back = sym (c.close.ensures c.args.sid here).leads in
+    record { leads = discarded_is held.opened (machine_of held) c.args.sid c.in-Some.at refl here ∙ (λ i. (replies.Discard c.args.sid, back i)) }
 
 pub returns-in-None : goal.returns-in-None
 returns-in-None c = from_sessions (λ m s.
