@@ -16,6 +16,7 @@ use Rattle.dg_zero.specs.States.{Zero}
 use Rattle.dg_zero.specs.Worlds.{graph_at}
 use Rattle.dg_node.specs.declared.engine.Opened.{Opened}
 use Rattle.dg_node.specs.Kept.{Held}
+use Rattle.dg_node.specs.Machine.{with_changes}
 use Rattle.dg_node.specs.Mutations.{added}
 use Rattle.dg_node.specs.NewUids.{uids_text}
 use Rattle.dg_node.specs.State.{machine_of}
@@ -102,7 +103,9 @@ returns-clause-ok c = from_to (legal_by c.self.view_is c.self.invariant.legal) (
     let same : c.take.new.self.zero ≡ z = c.in_ok-take.ensures.zero ∙ ap (λ (h : Held). h.zero) (sym c.self.view_is) in
     let left_there : leased c.take.new.self.zero.history c.top_uid-top.result c.len-count.result ≡ Some first = ap (λ (y : Zero). leased y.history c.top_uid-top.result c.len-count.result) same ∙ left in
     let taken = to_all c.in_ok-take.ensures.ok m s in
+    let mid = machine_of c.take.new.self in
+    let taken_is : mid ≡ with_changes m sid c.in_ok-changes.changes.items = sym taken.2 ∙ taken.1 in
     let then = (c.lease.ensures first left_there).leads in
     let changes : c.in_ok-changes.changes.items ≡ expanded (graph_at z.history a.it.start a.it.own) edges first = c.in_ok-changes.ensures ∙ (λ i. expanded (graph_at z.history (it i).start (it i).own) edges first) in
     let body : c.in_ok-body-2.body ≡ uids_text first (new_names edges) = c.in_ok-body-2.ensures ∙ ap (uids_text first) c.in_ok-names.ensures in
-    (machine_of c.lease.new.self, added_here z os c.self.invariant sid c.args.place a m stood edges c.top_uid-top.result c.len-count.result some c.top_uid-top.ensures count first c.in_ok-changes.changes.items c.in_ok-body-2.body taken.0 (machine_of c.lease.new.self) left changes body taken.1 then, refl))
+    (machine_of c.lease.new.self, added_here z os c.self.invariant sid c.args.place a m stood edges c.top_uid-top.result c.len-count.result some c.top_uid-top.ensures count first c.in_ok-changes.changes.items c.in_ok-body-2.body mid (machine_of c.lease.new.self) left changes body taken_is then, refl))
