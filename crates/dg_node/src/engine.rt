@@ -38,8 +38,8 @@ impl Model for Engine {
 }
 
 impl Engine {
-    ghost use Rattle.std.specs.Prelude.{◌≡◌, ◌==◌, ◌<◌, ◌≤◌, ℕ, Some, IfOk, IfSome, position, length};
-    ghost use Rattle.dg_node.specs.Machine.{empty, without_session};
+    ghost use Rattle.std.specs.Prelude.{◌≡◌, ◌==◌, ◌<◌, ◌≤◌, ◌^◌, ℕ, Some, IfOk, IfSome, position, length};
+    ghost use Rattle.dg_node.specs.Machine.{empty, empty_from, without_session};
     ghost use Rattle.dg_node.specs.State.{StandsFor, Leads};
 
     /// Nothing is declared, committed or open. The error is want of memory.
@@ -48,8 +48,19 @@ impl Engine {
         requires most { groups ≤ 16 }
         ensures { IfOk result (λ engine. StandsFor engine (empty groups)) }
     {
+        Engine::starting_at(alloc, groups, 1)
+    }
+
+    /// Nothing is declared, committed or open, and `next` is the next timestamp. The error is want of memory.
+    pub fn starting_at(alloc: Global, groups: u32, next: u64) -> Mem<Self>
+        requires least { 1 ≤ groups }
+        requires most { groups ≤ 16 }
+        requires first { 1 ≤ next }
+        requires last { next ≤ 2 ^ 62 }
+        ensures { IfOk result (λ engine. StandsFor engine (empty_from groups next)) }
+    {
         Ok(Engine {
-            zero: ZeroState::new(alloc, groups)?,
+            zero: ZeroState::starting_at(alloc, groups, next)?,
             sessions: Vec::new(alloc),
         })
     }
