@@ -1,5 +1,5 @@
 -- What holds of mutations, and of the parts and keys of changes.
-use Rattle.std.specs.Prelude.{◌≡◌, ◌≢◌, ℕ, true, false, List, [], None, fold, Result, Ok}
+use Rattle.std.specs.Prelude.{◌≡◌, ◌≢◌, ℕ, true, false, List, [], fold, Result, Ok}
 use Rattle.std.specs.List.{AllByRecursion}
 use Rattle.dg_values.specs.Ascending.{ascending, has}
 use Rattle.dg_delta.specs.Ops.{changes_between}

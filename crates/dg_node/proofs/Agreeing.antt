@@ -1,22 +1,19 @@
 -- What the commits of a legal history asked for agrees with what they wrote: the machine of every legal history has its keys and its graphs.
-use Rattle.std.proofs.Common.{◌≡◌, ℕ, ◌+◌, ◌<◌, List, [], ◌∷◌, ◌++◌, refl, ap, subst, sym, ◌∙◌}
-use Rattle.std.specs.List.{AllByRecursion}
+use Rattle.std.proofs.Common.{◌≡◌, ℕ, ◌+◌, List, [], ◌∷◌, ◌++◌, refl, ap, subst, sym, ◌∙◌}
 use Rattle.dg_schema.specs.declared.definition.PredDef.{PredDef}
 use Rattle.dg_graph.specs.declared.change.Change.{Change}
 use Rattle.dg_keys.specs.declared.conflict.ConflictKey.{ConflictKey}
 use Rattle.dg_keys.specs.declared.record.Record.{Record}
-use Rattle.dg_keys.specs.declared.record.Tablet.{Tablet}
 use Rattle.dg_zero.specs.declared.entry.Entry.{Entry}
 use Rattle.dg_zero.specs.declared.entry.Event.{Event}
 use Rattle.dg_zero.specs.declared.entry.Event.TheVariants.{Begin, Commit, Refused, End, Lease, Alter, Line, Rolled, MoveStart, MoveCopied, MoveHold, Flip, MoveOff, Look}
 use Rattle.dg_zero.specs.declared.offer.Offer.{Offer}
 use Rattle.dg_zero.specs.Counters.{drawn, next, next_uid_after}
 use Rattle.dg_zero.specs.Legal.{Fits, FitsCommit, FitsAlter, IsLegal}
-use Rattle.dg_zero.specs.States.{Zero, and_then}
+use Rattle.dg_zero.specs.States.{Zero}
 use Rattle.dg_zero.specs.States as states
 use Rattle.dg_zero.proofs.LawsOfHistories.{kept_from, anyone}
 use Rattle.dg_edges.proofs.CommitsSince.{reached, commits_do_as_asked}
-use Rattle.dg_node.specs.declared.engine.Opened.{Opened}
 use Rattle.dg_node.specs.Kept.{Held}
 use Rattle.dg_node.specs.Machine.{Machine}
 use Rattle.dg_node.specs.State.{machine_of}

@@ -2,8 +2,6 @@
 use Rattle.std.proofs.Common.{◌≡◌, ℕ, ◌<◌, ◌^◌, List, [], ◌∷◌, ◌++◌, Option, Some, None, refl, ap, subst, sym, ◌∙◌}
 use Rattle.std.specs.Prelude.{slice_get, option_map}
 use Rattle.std.specs.Option.{option_map_or}
-use Rattle.dg_schema.specs.declared.definition.PredDef.{PredDef}
-use Rattle.dg_keys.specs.declared.record.Part.{Part}
 use Rattle.dg_graph.specs.Graphs.{after_changes}
 use Rattle.dg_keys.specs.declared.conflict.ConflictKey.{ConflictKey}
 use Rattle.dg_keys.specs.Conflicts.{conflict_cmp, conflict_text}
@@ -20,7 +18,7 @@ use Rattle.dg_zero.specs.Listings.{conflict_keys}
 use Rattle.dg_zero.specs.States.{Zero, commit_of}
 use Rattle.dg_zero.specs.Verdicts.{conflict, commits}
 use Rattle.dg_zero.specs.Verdicts as zeros
-use Rattle.dg_zero.specs.Worlds.{world, schema, schema_at, graph_at, changes_of}
+use Rattle.dg_zero.specs.Worlds.{world, schema, schema_at, graph_at}
 use Rattle.dg_zero.proofs.Refusals.{verdict_where_idle}
 use Rattle.dg_edges.proofs.CommitsSince.{commits_do_as_asked}
 use Rattle.dg_node.specs.declared.engine.Opened.{Opened}

@@ -1,11 +1,11 @@
 -- The engine's machine stands for it, since its history is legal; so what leads from one to the other leads from machine to machine.
-use Rattle.std.proofs.Common.{◌≡◌, ℕ, List, refl, subst, sym}
+use Rattle.std.proofs.Common.{◌≡◌, refl, subst, sym}
 use Rattle.std.specs.Prelude.{map}
 use Rattle.dg_zero.specs.Legal.{IsLegal}
 use Rattle.dg_node.specs.Kept.{Held}
-use Rattle.dg_node.specs.Machine.{Machine, Session}
+use Rattle.dg_node.specs.Machine.{Machine}
 use Rattle.dg_node.specs.State.{session_from, machine_of, HistoriesAgree, Leads, Stays, StandsFor}
-use Rattle.dg_node.proofs.Standing.{StandFor, Stands, is_machine}
+use Rattle.dg_node.proofs.Standing.{Stands, is_machine}
 use Rattle.dg_node.proofs.Agreeing.{agree}
 
 pub histories_agree : HistoriesAgree

@@ -17,12 +17,11 @@ use Rattle.dg_keys.specs.declared.conflict.ConflictKey.{ConflictKey}
 use Rattle.dg_keys.specs.Conflicts.{conflict_text}
 use Rattle.dg_oracle.specs.declared.verdict.Verdict.{Verdict}
 use Rattle.dg_oracle.specs.declared.verdict.Verdict.TheVariants.{Conflict}
-use Rattle.dg_edges.specs.Deltas.{IsPlain, AreFitting, deltas}
+use Rattle.dg_edges.specs.Deltas.{IsPlain, AreFitting}
 use Rattle.dg_zero.specs.declared.entry.Entry.{Entry}
 use Rattle.dg_zero.specs.declared.offer.Offer.{Offer}
 use Rattle.dg_zero.specs.Counters.{active, is_active_of}
 use Rattle.dg_zero.specs.Legal.{IsLegal}
-use Rattle.dg_zero.specs.Listings.{conflict_keys}
 use Rattle.dg_zero.specs.Offers.{IsSound, IsMadeOf}
 use Rattle.dg_zero.specs.Worlds.{World, world_at, schema, schema_at, graph_at}
 use Rattle.dg_zero.proofs.SchemasStay.{schemas_stay}

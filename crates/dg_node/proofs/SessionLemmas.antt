@@ -23,7 +23,7 @@ use Rattle.dg_node.specs.declared.engine.Opened.{Opened}
 use Rattle.dg_node.specs.Schemas.{Alter}
 use Rattle.dg_node.specs.Schemas as machine_schemas
 use Rattle.dg_node.specs.Graphs.{committed_at}
-use Rattle.dg_node.specs.Machine.{Machine, Session, session_of, is_open, changed_if, with_session, with_changes, leased_upto, without_session}
+use Rattle.dg_node.specs.Machine.{Machine, Session, session_of, changed_if, with_session, with_changes, leased_upto, without_session}
 use Rattle.dg_node.specs.Machine as machines
 use Rattle.dg_node.specs.Transactions.{with_commit}
 use Rattle.dg_node.specs.Queries.{seen}

@@ -8,7 +8,7 @@ use Rattle.dg_zero.proofs.Kept.{none_active}
 use Rattle.dg_zero.proofs.SpentTimestamps.{none_spent, world_at_spent, oracle_at, spent_keeps}
 use Rattle.dg_edges.specs.Deltas.{IsPlain}
 use Rattle.dg_node.specs.declared.engine.Opened.{Opened}
-use Rattle.dg_node.specs.Kept.{Held, IsKept}
+use Rattle.dg_node.specs.Kept.{IsKept}
 use Rattle.dg_node.specs.Machine.{empty_from}
 use Rattle.dg_node.specs.State.{alter_of, asked_of, StandsFor}
 use Rattle.dg_node.proofs.Standing.{Stands, is_machine}
