@@ -23,6 +23,7 @@ from dataclasses import dataclass, field
 from typing import NamedTuple, Optional, Union
 
 LAST_UID = 2**62 - 1
+LAST_TIMESTAMP = 2**62 - 1
 LONGEST_NAME = 64
 LONGEST_ANSWER = 16_777_216
 RESERVED = {"uid", "count", "val", "min", "max", "sum", "as", "expand"}
@@ -534,8 +535,8 @@ def asked(body: bytes) -> Optional[tuple[str, int]]:
 class PlainMachine:
     """The committed changes in their order, the schema, the open sessions and the two counters."""
 
-    def __init__(self) -> None:
-        self.timestamp = 1
+    def __init__(self, timestamp: int = 1) -> None:
+        self.timestamp = timestamp
         self.uid = 1
         self.schema: dict[str, Definition] = {}
         self.commits: list[tuple[int, list[Change]]] = []
@@ -556,9 +557,12 @@ class PlainMachine:
         except Refusal as refusal:
             return refusal.line.encode() + b"\n"
 
-    def draw(self) -> int:
-        self.timestamp += 1
-        return self.timestamp - 1
+    def draw(self, count: int = 1) -> int:
+        """The first of so many new timestamps."""
+        if self.timestamp + count - 1 > LAST_TIMESTAMP:
+            raise Refusal(28, "TimestampsSpent", self.timestamp)
+        self.timestamp += count
+        return self.timestamp - count
 
     def graph_at(self, start: int) -> Graph:
         graph: Graph = {}
@@ -580,8 +584,9 @@ class PlainMachine:
         for name, definition in newer.items():
             if name in held and self.schema[name] != definition:
                 raise Refusal(22, "HasData", name)
+        start = self.draw(2)
         self.schema.update(newer)
-        return b"ok alter %d %d\n" % (self.draw(), self.draw())
+        return b"ok alter %d %d\n" % (start, start + 1)
 
     def begin(self, number: int) -> bytes:
         if number in self.sessions:
@@ -594,8 +599,9 @@ class PlainMachine:
         return b"ok discard %d\n" % number
 
     def commit(self, number: int, _: bytes) -> bytes:
-        session = self.sessions.pop(number)
+        session = self.sessions[number]
         if not session.changes:
+            del self.sessions[number]
             return b"ok commit %d 0\n" % number
         for key in sorted({change.key() for change in session.changes}):
             later = [
@@ -604,8 +610,10 @@ class PlainMachine:
                 if timestamp > session.start and any(change.key() == key for change in changes)
             ]
             if later:
+                del self.sessions[number]
                 raise Refusal(19, "Conflict", max(later), key.text())
         timestamp = self.draw()
+        del self.sessions[number]
         self.commits.append((timestamp, session.changes))
         return b"ok commit %d %d\n" % (number, timestamp)
 
@@ -735,9 +743,9 @@ class Run(NamedTuple):
     fault: Optional[int]
 
 
-def run(script: bytes) -> Run:
-    """What `dgraph run` does with a script of at most 64 MiB."""
-    machine = PlainMachine()
+def run(script: bytes, timestamp: int = 1) -> Run:
+    """What `dgraph run` does with a script of at most 64 MiB, where this is the first timestamp."""
+    machine = PlainMachine(timestamp)
     done = Run([], [], None)
     at = 0
     while at < len(script):

@@ -74,13 +74,13 @@ class Script:
         script.bytes += added
         return script
 
-    def run(self) -> None:
-        done = plain.run(self.bytes)
+    def run(self, asked: str = "run", timestamp: int = 1) -> None:
+        done = plain.run(self.bytes, timestamp)
         replies = [*done.replies, *[None] * len(self.rows)]
         for row, reply in zip(self.rows, replies):
             print(f"{row} => {reply_text(reply)}")
         self.written = b"".join(done.replies)
-        print(f"run => {ending(done.fault)}, {len(done.replies)} replies, {len(self.written)} bytes")
+        print(f"{asked} => {ending(done.fault)}, {len(done.replies)} replies, {len(self.written)} bytes")
 
     def again(self, count: str, most: str, reads: str, writes: str) -> str:
         """What comes of so many bytes in pieces, where calls fail."""
@@ -139,6 +139,11 @@ def main() -> None:
             script = script.add(row, bytes_of_row(table, *fields))
         elif table == "run":
             script.run()
+        elif table == "from":
+            if fields[0].isdigit() and 1 <= int(fields[0]) <= plain.LAST_TIMESTAMP + 1:
+                script.run(row, int(fields[0]))
+            else:
+                print(f"? {row}")
         elif table == "again":
             print(f"{row} => {script.again(*fields)}")
         elif table == "groups":

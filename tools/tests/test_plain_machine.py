@@ -29,6 +29,12 @@ class Machine(unittest.TestCase):
             self.assertEqual(plain.run(begun + rest).replies, [b"ok begin 1 1\n"])
         self.assertIsNone(plain.run(begun + b"alter 0\n\nline\nmovestart x.y 16\n").fault)
 
+    def test_timestamps_end(self) -> None:
+        last, end = plain.LAST_TIMESTAMP, plain.LAST_TIMESTAMP + 1
+        spent = b"error 28 TimestampsSpent %d\n" % end
+        self.assertEqual(plain.run(b"begin 1\nbegin 2\n", last).replies, [b"ok begin 1 %d\n" % last, spent])
+        self.assertEqual(plain.run(b"begin 1\nalter 0\n\n", end).replies, [spent, spent])
+
     def test_moments_have_their_texts(self) -> None:
         for text, shown in {
             "0000-03-01": "0000-03-01T00:00:00Z",

@@ -1,5 +1,6 @@
 //! Whole scripts, row by row. Rows of standard input add frames to a script; the row `run` runs it, and prints each of
-//! them with its reply. Other rows run it again in pieces, with calls that fail, or in part.
+//! them with its reply. A row `from` does so where timestamps begin later. Other rows run it again in pieces, with calls
+//! that fail, or in part.
 #![tactic(auto)]
 
 mod fields;
@@ -57,6 +58,7 @@ fn answer<R: Threads + Wait + Sync>(
             Ok(String::new(alloc))
         }
         "run" => runs::run(rt, alloc, script),
+        "from" => runs::run_from(alloc, script, row, said),
         _ => {
             let text = answer_to(rt, alloc, script, table, said)?;
             Ok(format!(in alloc; "{row} => {text}\n")?)

@@ -3,7 +3,7 @@ use crate::fields::{Answer, RowFault, numbers_of, shown};
 use crate::replies::Replies;
 use crate::script::Script;
 use dg_io::{MemSink, MemSource, OpenGate};
-use dg_node::{Status, dgraph_top, run_script};
+use dg_node::{Status, dgraph_top, run_script, run_script_from};
 use std::alloc::{AllocError, Global};
 use std::fmt::Write;
 use std::sync::Wait;
@@ -14,6 +14,9 @@ const GROUPS: u32 = 2;
 
 // As many bytes as a source gives a call where a row doesn't say.
 const MOST_BYTES: usize = 16_384;
+
+// As a next timestamp this says that all are spent.
+const SPENT: u64 = 4_611_686_018_427_387_904;
 
 // A longer reply is printed in part.
 const LONGEST_SHOWN: usize = 400;
@@ -28,7 +31,33 @@ pub fn run<R: Threads + Wait + Sync>(rt: &R, alloc: Global, script: &mut Script)
     let mut sink = Replies::new(alloc);
     let words = words_of(alloc, "run")?;
     let status = dgraph_top(rt, alloc, &words, &mut source, &mut sink, &OpenGate);
-    let replies = sink.pieces();
+    told(alloc, script, "run", status, sink.pieces())
+}
+
+/// `from | NEXT`: the same on a machine whose next timestamp is this one
+pub fn run_from(alloc: Global, script: &mut Script, row: &str, said: &[&str]) -> Answer {
+    let [next] = said else {
+        return Err(RowFault::Unreadable);
+    };
+    let next = next.parse::<u64>()?;
+    if next < 1 || next > SPENT {
+        return Err(RowFault::Unreadable);
+    }
+    let bytes = Vec::from_slice(alloc, script.bytes())?;
+    let mut source = MemSource::new(bytes, Vec::new(alloc), MOST_BYTES);
+    let mut sink = Replies::new(alloc);
+    let status = run_script_from(alloc, GROUPS, next, &mut source, &mut sink);
+    told(alloc, script, row, status, sink.pieces())
+}
+
+// What is printed of a run that this row asked for. The script has run then.
+fn told(
+    alloc: Global,
+    script: &mut Script,
+    asked: &str,
+    status: Status,
+    replies: &[Vec<u8>],
+) -> Answer {
     let mut text = String::new(alloc);
     for (at, row) in script.rows().iter().enumerate() {
         let reply = reply_text(alloc, replies.get(at))?;
@@ -38,7 +67,7 @@ pub fn run<R: Threads + Wait + Sync>(rt: &R, alloc: Global, script: &mut Script)
     let ending = ending(alloc, status)?;
     write!(
         text,
-        "run => {ending}, {} replies, {} bytes\n",
+        "{asked} => {ending}, {} replies, {} bytes\n",
         replies.len(),
         written.len()
     )?;
