@@ -1,13 +1,11 @@
 -- Arguments, options and directives that are written.
-use Rattle.std.proofs.Common.{◌≡◌, ℕ, ℤ, ◌<◌, List, [], ◌∷◌, ◌++◌, length, append_assoc, sym, ap, ◌∙◌, codes, arith}
+use Rattle.std.proofs.Common.{◌≡◌, ℕ, ℤ, List, [], ◌∷◌, ◌++◌, append_assoc, sym, ap, ◌∙◌, codes}
 use Rattle.std.specs.Prelude.{Bool}
 use Rattle.dg_text.specs.Spelling.{name_word, at_word, int_word, mark_word}
 use Rattle.dg_text.specs.Written.{Word, written}
-use Rattle.dg_parse.specs.Printed.{in_round, commas, arg_words, args_words, opt_words, opts_words, truth_text}
-use Rattle.dg_parse.specs.declared.query.QArg.{QArg}
-use Rattle.dg_parse.specs.declared.query.QOpt.{QOpt}
+use Rattle.dg_parse.specs.Printed.{in_round, opt_words, truth_text}
 use Rattle.dg_parse.specs.declared.query.QOpt.TheVariants as options
-use Rattle.dg_parse.proofs.WordsWritten.{written_both, in_round_written}
+use Rattle.dg_parse.proofs.WordsWritten.{written_both}
 
 pub depth_written : (old : List ℕ) (n : ℤ) → old ++ written (opt_words (options.Depth n)) ≡ (old ++ codes "depth : ") ++ written (int_word n ∷ [])
 depth_written old n = sym (append_assoc old (codes "depth : ") (written (int_word n ∷ [])))
