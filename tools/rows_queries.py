@@ -5,8 +5,8 @@
 
 Tokens and statements are read by plain_machine.py. Queries, upsert blocks, their depth and the cases beside
 the grammar are read here, by recursive descent: a case notes the offset of the token that it refuses, and
-reading goes on. What is read of a query is its printed form: its words, with a blank behind each. No line of
-it was taken from the crates or from what they print. It needs Python 3.9 or later.
+reading goes on. What is read of a query or an upsert block is its printed form: its words, with a blank behind
+each. No line of it was taken from the crates or from what they print. It needs Python 3.9 or later.
 """
 
 from __future__ import annotations
@@ -16,7 +16,7 @@ from collections.abc import Callable, Iterator
 from typing import NamedTuple, Optional, TypeVar
 
 import plain_machine as plain
-from rows_text import KINDS, of_field, shown
+from rows_text import TYPES, of_field, shown
 
 Said = TypeVar("Said")
 
@@ -53,8 +53,12 @@ def in_round(inner: str) -> str:
     return words("(") + inner + words(")")
 
 
+def in_curly(inner: str) -> str:
+    return words("{") + inner + words("}")
+
+
 def filter_words(part: Part, around: str) -> str:
-    """A filter in brackets, in an `or` or in an `and`, with no more brackets than it needs."""
+    """A filter or a condition in brackets, in an `or` or in an `and`, with no more brackets than it needs."""
     nots = words("not") * part.nots
     if not part.joint:
         return nots + part.atom
@@ -65,11 +69,6 @@ def filter_words(part: Part, around: str) -> str:
 
 def val_words(name: str) -> str:
     return words("val") + in_round(words(name))
-
-
-def condition_text(part: Part) -> str:
-    nots = f"not^{part.nots} " if part.nots else ""
-    return nots + (f"{part.joint}({', '.join(map(condition_text, part.parts))})" if part.joint else part.atom)
 
 
 class Fault(Exception):
@@ -271,7 +270,7 @@ class QueryReader(plain.Reader):
         self.comma()
         number = self.number()
         self.want(")")
-        return f"{word}(len({name}) {number})"
+        return words(word) + in_round(words("len") + in_round(words(name)) + words(",", str(number)))
 
     # ---- arguments and directives
 
@@ -338,7 +337,7 @@ class QueryReader(plain.Reader):
         while self.next().kind in ("name", "~"):
             said += self.field(around, keys) + words(",")
         self.want("}")
-        return words("{") + said + words("}")
+        return in_curly(said)
 
     def field(self, around: Around, keys: set[str]) -> str:
         variable, as_offset = self.variable()
@@ -437,7 +436,7 @@ class QueryReader(plain.Reader):
         while self.next().kind == "name":
             said += self.block(names)
         self.want("}")
-        return words("{") + said + words("}")
+        return in_curly(said)
 
     def query(self) -> str:
         if self.is_word("query"):
@@ -450,67 +449,68 @@ class QueryReader(plain.Reader):
         token = self.next()
         if token.kind == "name" and token.says == "uid":
             self.take()
-            return f"uid({self.bracketed(self.name)})"
+            return words("uid") + in_round(words(self.bracketed(self.name)))
         if token.kind == "iri" and plain.UID.fullmatch(token.says) and int(token.says, 16):
-            return hex(int(self.take().says, 16))
+            return words(f"<{hex(int(self.take().says, 16))}>")
         if token.kind == "blank" and not deletes:
-            return f"_:{self.take().says}"
+            return words(f"_:{self.take().says}")
         raise self.refuse(token)
 
     def object(self, deletes: bool) -> str:
         token = self.next()
         if token.kind == "name" and token.says == "val":
-            return f"val({self.val()})"
+            return val_words(self.val())
         if token.kind == "*" and deletes:
-            return self.take().kind
+            return words(self.take().kind)
         if token.kind != "quoted":
             return self.subject(deletes)
-        said = f'"{self.take().says}"'
+        said = quoted(self.take().says)
         if self.next().kind != "caret":
             return said
         self.take()
         if self.next().kind != "iri" or self.next().says not in plain.TYPES:
             raise self.refuse(self.next())
-        return f"{said}^^{KINDS[plain.TYPES[self.take().says]]}"
+        return said + words("^^", f"<xs:{TYPES[plain.TYPES[self.take().says]]}>")
 
     def statement(self, deletes: bool) -> str:
-        said = " delete " if deletes else " set "
-        said += self.subject(deletes)
+        """A statement in a group of its own."""
+        subject = self.subject(deletes)
         token = self.next()
         if token.kind not in ("name", "iri") or not plain.is_whole(plain.NAME, token.says):
             raise self.refuse(token)
-        said += f" {self.take().says} {self.object(deletes)}."
+        said = subject + words(f"<{self.take().says}>") + self.object(deletes) + words(".")
         if self.next().kind in ("iri", "blank", "quoted"):
             self.take()
         self.want(".")
-        return said
+        return words("delete" if deletes else "set") + in_curly(said)
 
     def mutation(self) -> str:
         self.word("mutation")
-        said = "mutation"
+        said = words("mutation")
         if self.next().kind == "at" and self.next().says == "if":
             self.take()
-            said += " if " + condition_text(self.bracketed(lambda: self.any_of(self.length, "or")))
-        said += ":"
+            condition = self.bracketed(lambda: self.any_of(self.length, "or"))
+            said += words("@if") + in_round(filter_words(condition, "("))
+        groups = ""
         self.want("{")
         while self.is_word("set", "delete"):
             deletes = self.take().says == "delete"
             self.want("{")
             while self.next().kind in ("iri", "blank") or self.is_word("uid"):
-                said += self.statement(deletes)
+                groups += self.statement(deletes)
             self.want("}")
         self.want("}")
-        return words(said)
+        return said + in_curly(groups)
 
     def upsert(self) -> str:
         self.word("upsert")
         self.want("{")
         self.word("query")
-        said = self.blocks() + self.mutation()
+        said = words("query") + self.blocks() + self.mutation()
         while self.is_word("mutation"):
             said += self.mutation()
         self.want("}")
-        return said
+        return words("upsert") + in_curly(said)
 
 
 def read(text: str, upsert: bool) -> str:

@@ -1,21 +1,11 @@
 -- Arguments, options and directives that are written.
-use Rattle.std.proofs.Common.{◌≡◌, ℕ, ℤ, ◌<◌, List, [], ◌∷◌, ◌++◌, length, append_assoc, sym, ap, ◌∙◌, codes, arith}
+use Rattle.std.proofs.Common.{◌≡◌, ℕ, ℤ, List, [], ◌∷◌, ◌++◌, append_assoc, sym, ap, ◌∙◌, codes}
 use Rattle.std.specs.Prelude.{Bool}
 use Rattle.dg_text.specs.Spelling.{name_word, at_word, int_word, mark_word}
 use Rattle.dg_text.specs.Written.{Word, written}
-use Rattle.dg_parse.specs.Printed.{in_round, commas, arg_words, args_words, opt_words, opts_words, truth_text}
-use Rattle.dg_parse.specs.declared.query.QArg.{QArg}
-use Rattle.dg_parse.specs.declared.query.QOpt.{QOpt}
+use Rattle.dg_parse.specs.Printed.{in_round, opt_words, truth_text}
 use Rattle.dg_parse.specs.declared.query.QOpt.TheVariants as options
-use Rattle.dg_parse.proofs.WordsWritten.{written_both, in_round_written}
-
-pub args_written : (old : List ℕ) (all : List QArg) → 0 < length all → old ++ written (args_words all) ≡ ((old ++ codes "( ") ++ written (commas arg_words all)) ++ codes ") "
-args_written old [] some = absurd (omega (arith, some))
-args_written old (a ∷ more) some = in_round_written old (commas arg_words (a ∷ more))
-
-pub opts_written : (old : List ℕ) (all : List QOpt) → 0 < length all → old ++ written (opts_words all) ≡ ((old ++ codes "( ") ++ written (commas opt_words all)) ++ codes ") "
-opts_written old [] some = absurd (omega (arith, some))
-opts_written old (o ∷ more) some = in_round_written old (commas opt_words (o ∷ more))
+use Rattle.dg_parse.proofs.WordsWritten.{written_both}
 
 pub depth_written : (old : List ℕ) (n : ℤ) → old ++ written (opt_words (options.Depth n)) ≡ (old ++ codes "depth : ") ++ written (int_word n ∷ [])
 depth_written old n = sym (append_assoc old (codes "depth : ") (written (int_word n ∷ [])))

@@ -1,16 +1,13 @@
 -- Filters that are written, by what stands within them.
-use Rattle.std.proofs.Common.{◌≡◌, ℕ, zero, suc, ◌+◌, true, false, List, [], ◌∷◌, ◌++◌, map, append_assoc, refl, sym, ap, ◌∙◌, codes, arith}
-use Rattle.std.specs.Prelude.{nat_eq, flat_map}
+use Rattle.std.proofs.Common.{◌≡◌, ℕ, ◌+◌, true, false, List, [], ◌∷◌, ◌++◌, map, append_assoc, refl, sym, ap, ◌∙◌, codes}
+use Rattle.std.specs.Prelude.{Bool, flat_map, if◌then◌else◌}
 use Rattle.std.proofs.lemmas.List.{replicate_more}
-use Rattle.std.proofs.lemmas.Bool.{true≢false, false≢true}
-use Rattle.std.proofs.lemmas.Bool.Decides.{nat_tests}
 use Rattle.dg_text.specs.Spelling.{name_word, mark_word}
 use Rattle.dg_text.specs.Written.{Word, written}
-use Rattle.dg_parse.specs.Printed.{Shown, in_round, between_words, nots, shown, shown_alone, shown_or, shown_and}
-use Rattle.dg_parse.specs.Printing.{words_in, or_is_bare, and_is_bare}
-use Rattle.dg_parse.specs.declared.printing.filters.Within.{Within}
-use Rattle.dg_parse.specs.declared.printing.filters.Within.TheVariants as within
-use Rattle.dg_parse.specs.declared.query.QFilter.{QFilter}
+use Rattle.dg_parse.specs.Printed.{Shown, in_round, between_words, nots, shown_alone}
+use Rattle.dg_parse.specs.Printing.{words_in}
+use Rattle.dg_parse.specs.declared.printing.brackets.Within.{Within}
+use Rattle.dg_parse.specs.declared.printing.brackets.Within.TheVariants as within
 use Rattle.dg_parse.proofs.WordsWritten.{written_both, two_written}
 
 -- one "not" more
@@ -39,58 +36,10 @@ between_map {X = X} {S = S} w f h (x ∷ xs) = ap (λ (l : List Word). f (h x) +
     flat [] = refl
     flat (y ∷ ys) = ap (λ (l : List Word). w ∷ f (h y) ++ l) (flat ys)
 
--- a number above 0 isn't 0
-above : (n : ℕ) → nat_eq (suc n) 0 ≡ true → ⊥
-above n e = let zero_is : suc n ≡ 0 = grind (arith, nat_tests) in absurd (omega (arith, zero_is))
+-- the words of an or or an and that stands bare or not, by those of its items
+module _ {X : Type 0} (show : X → Shown) (bare : Bool) (shown_as : List Word → List Word) (n : ℕ) (is : (ws : List Word) → shown_as ws ≡ (if bare then ws else nots n ++ in_round ws)) where
+  pub items_bare : (w : Word) (f : Shown → List Word) (xs : List X) → bare ≡ true → shown_as (between_words w f (map show xs)) ≡ between_words w (λ x. f (show x)) xs
+  items_bare w f xs e = is _ ∙ rw e (between_map w f show xs)
 
--- the words of an or that stands without brackets
-or_bare_is : (a : Within) (n : ℕ) (ws : List Word) → or_is_bare a n ≡ true → words_in a (shown_or n ws) ≡ ws
-or_bare_is within.Brackets zero ws e = refl
-or_bare_is within.Brackets (suc n) ws e = absurd (above n e)
-or_bare_is within.Or n ws e = absurd (false≢true e)
-or_bare_is within.And n ws e = absurd (false≢true e)
-
-or_closed_is : (a : Within) (n : ℕ) (ws : List Word) → or_is_bare a n ≡ false → words_in a (shown_or n ws) ≡ nots n ++ in_round ws
-or_closed_is within.Brackets zero ws e = absurd (true≢false e)
-or_closed_is within.Brackets (suc n) ws e = refl
-or_closed_is within.Or n ws e = refl
-or_closed_is within.And n ws e = refl
-
-and_bare_is : (a : Within) (n : ℕ) (ws : List Word) → and_is_bare a n ≡ true → words_in a (shown_and n ws) ≡ ws
-and_bare_is within.Brackets zero ws e = refl
-and_bare_is within.Brackets (suc n) ws e = absurd (above n e)
-and_bare_is within.Or zero ws e = refl
-and_bare_is within.Or (suc n) ws e = absurd (above n e)
-and_bare_is within.And n ws e = absurd (false≢true e)
-
-and_closed_is : (a : Within) (n : ℕ) (ws : List Word) → and_is_bare a n ≡ false → words_in a (shown_and n ws) ≡ nots n ++ in_round ws
-and_closed_is within.Brackets zero ws e = absurd (true≢false e)
-and_closed_is within.Brackets (suc n) ws e = refl
-and_closed_is within.Or zero ws e = absurd (true≢false e)
-and_closed_is within.Or (suc n) ws e = refl
-and_closed_is within.And n ws e = refl
-
--- filters in an or, and in an and
-abbrev pub ors : List QFilter → List Word
-ors fs = between_words (name_word (codes "or")) (λ f. words_in within.Or (shown f)) fs
-
-abbrev pub ands : List QFilter → List Word
-ands fs = between_words (name_word (codes "and")) (λ f. words_in within.And (shown f)) fs
-
-ors_are : (fs : List QFilter) → between_words (name_word (codes "or")) (λ (f : Shown). f.as_and) (map shown fs) ≡ ors fs
-ors_are fs = between_map (name_word (codes "or")) (λ (f : Shown). f.as_and) shown fs
-
-ands_are : (fs : List QFilter) → between_words (name_word (codes "and")) (λ (f : Shown). f.as_not) (map shown fs) ≡ ands fs
-ands_are fs = between_map (name_word (codes "and")) (λ (f : Shown). f.as_not) shown fs
-
-pub or_bare : (a : Within) (n : ℕ) (fs : List QFilter) → or_is_bare a n ≡ true → words_in a (shown_or n (between_words (name_word (codes "or")) (λ (f : Shown). f.as_and) (map shown fs))) ≡ ors fs
-or_bare a n fs e = or_bare_is a n _ e ∙ ors_are fs
-
-pub or_closed : (a : Within) (n : ℕ) (fs : List QFilter) → or_is_bare a n ≡ false → words_in a (shown_or n (between_words (name_word (codes "or")) (λ (f : Shown). f.as_and) (map shown fs))) ≡ nots n ++ in_round (ors fs)
-or_closed a n fs e = or_closed_is a n _ e ∙ ap (λ (ws : List Word). nots n ++ in_round ws) (ors_are fs)
-
-pub and_bare : (a : Within) (n : ℕ) (fs : List QFilter) → and_is_bare a n ≡ true → words_in a (shown_and n (between_words (name_word (codes "and")) (λ (f : Shown). f.as_not) (map shown fs))) ≡ ands fs
-and_bare a n fs e = and_bare_is a n _ e ∙ ands_are fs
-
-pub and_closed : (a : Within) (n : ℕ) (fs : List QFilter) → and_is_bare a n ≡ false → words_in a (shown_and n (between_words (name_word (codes "and")) (λ (f : Shown). f.as_not) (map shown fs))) ≡ nots n ++ in_round (ands fs)
-and_closed a n fs e = and_closed_is a n _ e ∙ ap (λ (ws : List Word). nots n ++ in_round ws) (ands_are fs)
+  pub items_closed : (w : Word) (f : Shown → List Word) (xs : List X) → bare ≡ false → shown_as (between_words w f (map show xs)) ≡ nots n ++ in_round (between_words w (λ x. f (show x)) xs)
+  items_closed w f xs e = is _ ∙ rw e (ap (λ (ws : List Word). nots n ++ in_round ws) (between_map w f show xs))

@@ -40,3 +40,4 @@ pub mod Slashed
 pub mod FiltersWritten
 pub mod ArgumentsWritten
 pub mod FieldsWritten
+pub mod UpsertsWritten

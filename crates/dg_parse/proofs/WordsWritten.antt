@@ -1,6 +1,7 @@
 -- Words that are written one after the other.
-use Rattle.std.proofs.Common.{◌≡◌, ℕ, ℤ, arith, length-take, ◌+◌, ◌<◌, Bool, false, List, [], ◌∷◌, ◌++◌, length, take, get_or, append_assoc, append-nil, sym, ap, ◌∙◌, codes}
-use Rattle.std.specs.Prelude.{flat_map}
+use Rattle.std.proofs.Common.{◌≡◌, ℕ, suc, ℤ, arith, length-take, ◌+◌, ◌<◌, Bool, true, false, refl, List, [], ◌∷◌, ◌++◌, length, take, get_or, append_assoc, append-nil, sym, ap, ◌∙◌, codes}
+use Rattle.std.specs.Prelude.{flat_map, nat_eq, if◌then◌else◌}
+use Rattle.std.proofs.lemmas.Bool.Decides.{nat_tests}
 use Rattle.std.specs.Fmt.{digits, signed_decimal}
 use Rattle.std.proofs.lemmas.List.{take_more}
 use Rattle.std.proofs.lemmas.Grind.{flat_map-append}
@@ -8,7 +9,6 @@ use Rattle.dg_text.specs.Quoting.{quoted_word}
 use Rattle.dg_text.specs.Spelling.{name_word, uid_word, int_word, regex_word, slashed, flag_text, mark_word}
 use Rattle.dg_text.specs.Written.{Word, written}
 use Rattle.dg_parse.specs.Printed.{in_round, between_words}
-use Rattle.dg_parse.specs.Printing.{joint_before}
 
 -- words before others
 pub written_both : (ws more : List Word) → written (ws ++ more) ≡ written ws ++ written more
@@ -61,6 +61,10 @@ pair_written old w v = two_written old (w ∷ []) (v ∷ [])
 pub as_written : (old name : List ℕ) → old ++ written (name_word name ∷ name_word (codes "as") ∷ []) ≡ (old ++ written (name_word name ∷ [])) ++ codes "as "
 as_written old name = pair_written old (name_word name) (name_word (codes "as"))
 
+-- a word and others
+pub word_written : (old : List ℕ) (w : Word) (ws : List Word) → old ++ written (w ∷ ws) ≡ (old ++ written (w ∷ [])) ++ written ws
+word_written old w ws = two_written old (w ∷ []) ws
+
 -- a word and a colon
 pub colon_behind : (old word : List ℕ) → old ++ written (name_word word ∷ mark_word 58 ∷ []) ≡ (old ++ written (name_word word ∷ [])) ++ codes ": "
 colon_behind old word = pair_written old (name_word word) (mark_word 58)
@@ -81,22 +85,43 @@ enclosed old front back ws = sym (append_assoc old front (written ws ++ back)) �
 pub in_round_written : (old : List ℕ) (ws : List Word) → old ++ written (in_round ws) ≡ ((old ++ codes "( ") ++ written ws) ++ codes ") "
 in_round_written old ws = ap (λ (l : List ℕ). old ++ (codes "( " ++ l)) (written_both ws (mark_word 41 ∷ [])) ∙ enclosed old (codes "( ") (codes ") ") ws
 
+-- words and others in brackets
+pub both_in_round : (old : List ℕ) (ws more : List Word) → old ++ written (in_round (ws ++ more)) ≡ (((old ++ codes "( ") ++ written ws) ++ written more) ++ codes ") "
+both_in_round old ws more = in_round_written old (ws ++ more) ∙ ap (λ (l : List ℕ). l ++ codes ") ") (two_written (old ++ codes "( ") ws more)
+
 -- words in braces
 pub in_curly_written : (old : List ℕ) (ws : List Word) → old ++ written (mark_word 123 ∷ (ws ++ mark_word 125 ∷ [])) ≡ ((old ++ codes "{ ") ++ written ws) ++ codes "} "
 in_curly_written old ws = ap (λ (l : List ℕ). old ++ (codes "{ " ++ l)) (written_both ws (mark_word 125 ∷ [])) ∙ enclosed old (codes "{ ") (codes "} ") ws
 
+-- a number above 0 isn't 0
+above : (n : ℕ) → nat_eq (suc n) 0 ≡ true → ⊥
+above n e = let zero_is : suc n ≡ 0 = grind (arith, nat_tests) in absurd (omega (arith, zero_is))
+
+not_first : (n : ℕ) (b : Bool) → nat_eq (suc n) 0 ≡ b → nat_eq (suc n) 0 ≡ false
+not_first n true e = absurd (above n e)
+not_first n false e = e
+
+-- a word before each item but the first
+abbrev pub joint : Word → ℕ → List Word
+joint w n = if nat_eq n 0 then [] else w ∷ []
+
+joint_is : (w : Word) (n : ℕ) → joint w (suc n) ≡ w ∷ []
+joint_is w n = rw (not_first n (nat_eq (suc n) 0) refl) refl
+
 -- one item more behind others
-between_push : {X : Type 0} (w : Word) (words_of : X → List Word) (xs : List X) (x : X) → written (between_words w words_of (xs ++ x ∷ [])) ≡ (written (between_words w words_of xs) ++ joint_before w.1 (length xs)) ++ written (words_of x)
+between_push : {X : Type 0} (w : Word) (words_of : X → List Word) (xs : List X) (x : X) → written (between_words w words_of (xs ++ x ∷ [])) ≡ (written (between_words w words_of xs) ++ written (joint w (length xs))) ++ written (words_of x)
 between_push w words_of [] x = ap written (append-nil (words_of x))
 between_push w words_of (y ∷ ys) x =
+    let before : List Word = words_of y ++ flat_map (λ z. w ∷ words_of z) ys in
     ap (λ (l : List Word). written (words_of y ++ l)) (flat_map-append (λ z. w ∷ words_of z) ys (x ∷ []))
     ∙ ap (λ (l : List Word). written (words_of y ++ (flat_map (λ z. w ∷ words_of z) ys ++ w ∷ l))) (append-nil (words_of x))
     ∙ ap written (sym (append_assoc (words_of y) (flat_map (λ z. w ∷ words_of z) ys) (w ∷ words_of x)))
-    ∙ written_both (words_of y ++ flat_map (λ z. w ∷ words_of z) ys) (w ∷ words_of x)
-    ∙ sym (append_assoc (written (words_of y ++ flat_map (λ z. w ∷ words_of z) ys)) (w.1 ++ 32 ∷ []) (written (words_of x)))
+    ∙ written_both before (w ∷ words_of x)
+    ∙ word_written (written before) w (words_of x)
+    ∙ ap (λ (ws : List Word). (written before ++ written ws) ++ written (words_of x)) (sym (joint_is w (length ys)))
 
--- the items up to a place, and the one there
-pub joined_more : {X : Type 0} (w : Word) (words_of : X → List Word) (xs : List X) (i : ℕ) (x : X) (old : List ℕ) → i < length xs → old ++ written (between_words w words_of (take (i + 1) xs)) ≡ ((old ++ written (between_words w words_of (take i xs))) ++ joint_before w.1 i) ++ written (words_of (get_or xs i x))
+-- the items up to a place with a word between any two, and the one there
+joined_more : {X : Type 0} (w : Word) (words_of : X → List Word) (xs : List X) (i : ℕ) (x : X) (old : List ℕ) → i < length xs → old ++ written (between_words w words_of (take (i + 1) xs)) ≡ ((old ++ written (between_words w words_of (take i xs))) ++ written (joint w i)) ++ written (words_of (get_or xs i x))
 joined_more {X = X} w words_of xs i x old lt =
     let many : length (take i xs) ≡ i = length-take i xs ∙ omega (arith, lt) in
     let so_far : List ℕ = written (between_words w words_of (take i xs)) in
@@ -104,12 +129,22 @@ joined_more {X = X} w words_of xs i x old lt =
     ap (λ (l : List ℕ). old ++ l) (
     ap (λ (ys : List X). written (between_words w words_of ys)) (take_more xs i x lt)
     ∙ between_push w words_of (take i xs) (get_or xs i x)
-    ∙ ap (λ (n : ℕ). (so_far ++ joint_before w.1 n) ++ one) many
+    ∙ ap (λ (n : ℕ). (so_far ++ written (joint w n)) ++ one) many
     )
-    ∙ sym (append_assoc old (so_far ++ joint_before w.1 i) one)
-    ∙ ap (λ (l : List ℕ). l ++ one) (sym (append_assoc old so_far (joint_before w.1 i)))
+    ∙ sym (append_assoc old (so_far ++ written (joint w i)) one)
+    ∙ ap (λ (l : List ℕ). l ++ one) (sym (append_assoc old so_far (written (joint w i))))
 
--- the items up to a place, and the one there, with nothing between them
+-- what is written after the word between two items and after the next item
+pub joined_step : {X : Type 0} (w : Word) (words_of : X → List Word) (xs : List X) (i : ℕ) (x : X) (old so_far joined now : List ℕ) → i < length xs → x ≡ get_or xs i x
+    → so_far ≡ old ++ written (between_words w words_of (take i xs)) → joined ≡ so_far ++ written (joint w i) → now ≡ joined ++ written (words_of x) → now ≡ old ++ written (between_words w words_of (take (i + 1) xs))
+joined_step {X = X} w words_of xs i x old so_far joined now lt is before with_word added =
+    added
+    ∙ ap (λ (l : List ℕ). l ++ written (words_of x)) with_word
+    ∙ ap (λ (l : List ℕ). (l ++ written (joint w i)) ++ written (words_of x)) before
+    ∙ ap (λ (y : X). ((old ++ written (between_words w words_of (take i xs))) ++ written (joint w i)) ++ written (words_of y)) is
+    ∙ sym (joined_more w words_of xs i x old lt)
+
+-- the items up to a place, and the one there
 pub listed_more : {X : Type 0} (words_of : X → List Word) (xs : List X) (i : ℕ) (x : X) (old : List ℕ) → i < length xs → old ++ written (flat_map words_of (take (i + 1) xs)) ≡ (old ++ written (flat_map words_of (take i xs))) ++ written (words_of (get_or xs i x))
 listed_more {X = X} words_of xs i x old lt =
     ap (λ (ys : List X). old ++ written (flat_map words_of ys)) (take_more xs i x lt)

@@ -4,7 +4,6 @@
 #![tactic(auto)]
 
 mod changes;
-mod conditions;
 mod pictures;
 mod texts;
 

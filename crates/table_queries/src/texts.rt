@@ -2,16 +2,15 @@
 ghost use Rattle.std.specs.Prelude.{◌≤◌, length};
 
 use crate::MOST;
-use crate::conditions::push_upsert;
 use crate::pictures::{pictured, plain};
-use dg_parse::{DqlFault, Query, parse, parse_upsert};
+use dg_parse::{DqlFault, parse, parse_upsert};
 use dg_values::Mem;
 use std::alloc::Global;
 use std::fmt::Write;
 use std::str;
 
-// What a printed text is read as.
-fn again(alloc: Global, text: &str) -> Mem<String> {
+// What the printed text of a query is read as.
+fn query_again(alloc: Global, text: &str) -> Mem<String> {
     if text.len() > MOST {
         return Ok(String::from_str(alloc, "long")?);
     }
@@ -21,15 +20,24 @@ fn again(alloc: Global, text: &str) -> Mem<String> {
     }
 }
 
-// A query in its printed form, and what this is read as where it isn't the same.
-fn printed(alloc: Global, query: &Query) -> Mem<String> {
-    let text = query.text_of(alloc)?;
-    let again = again(alloc, text.as_str())?;
-    if again.as_str() == text.as_str() {
-        Ok(text)
-    } else {
-        Ok(format!(in alloc; "{text}is read as {again}")?)
+// What the printed text of an upsert block is read as.
+fn upsert_again(alloc: Global, text: &str) -> Mem<String> {
+    if text.len() > MOST {
+        return Ok(String::from_str(alloc, "long")?);
     }
+    match parse_upsert(alloc, text) {
+        Ok(upsert) => upsert.text_of(alloc),
+        Err(fault) => Ok(fault.to_string(alloc)?),
+    }
+}
+
+// A printed text, and what it is read as where that isn't printed the same.
+fn printed(alloc: Global, text: &str, again: &str) -> Mem<Option<String>> {
+    if again == text {
+        return Ok(Some(pictured(alloc, text)?));
+    }
+    let both = format!(in alloc; "{text}is read as {again}")?;
+    Ok(Some(pictured(alloc, both.as_str())?))
 }
 
 // The query of a text, or its fault.
@@ -38,8 +46,9 @@ pub(crate) fn query(alloc: Global, text: &str) -> Mem<Option<String>>
 {
     match parse(alloc, text) {
         Ok(query) => {
-            let text = printed(alloc, &query)?;
-            Ok(Some(pictured(alloc, text.as_str())?))
+            let text = query.text_of(alloc)?;
+            let again = query_again(alloc, text.as_str())?;
+            printed(alloc, text.as_str(), again.as_str())
         }
         Err(fault) => Ok(Some(fault.to_string(alloc)?)),
     }
@@ -51,9 +60,9 @@ pub(crate) fn upsert(alloc: Global, text: &str) -> Mem<Option<String>>
 {
     match parse_upsert(alloc, text) {
         Ok(upsert) => {
-            let mut out = String::new(alloc);
-            push_upsert(alloc, &mut out, &upsert)?;
-            Ok(Some(pictured(alloc, out.as_str())?))
+            let text = upsert.text_of(alloc)?;
+            let again = upsert_again(alloc, text.as_str())?;
+            printed(alloc, text.as_str(), again.as_str())
         }
         Err(fault) => Ok(Some(fault.to_string(alloc)?)),
     }

@@ -5,9 +5,10 @@ ghost use Rattle.dg_text.specs.Spelling.{at_word, int_word, mark_word, name_word
 ghost use Rattle.dg_text.specs.Written.{written};
 ghost use Rattle.dg_parse.specs.Printed as spec;
 
-use super::filters::{Within, push_filter};
+use super::brackets::Within;
+use super::filters::push_filter;
 use super::functions::push_val;
-use super::words::{push_int, push_joint, push_name, push_uid};
+use super::words::{push_int, push_name, push_uid};
 use crate::{QArg, QDir, QFilter, QOpt, QOrder};
 use dg_values::{Mem, Str};
 use std::alloc::Global;
@@ -58,31 +59,6 @@ fn push_arg(alloc: Global, out: &mut Str, arg: &QArg) -> Mem<()>
     push_value(alloc, out, arg)
 }
 
-// Adds arguments with a comma between any two.
-#[tactic(auto, using(crate::proofs::WordsWritten::joined_more))]
-fn push_all_args(alloc: Global, out: &mut Str, args: &[QArg]) -> Mem<()>
-    ensures { OnOk result (out.new ≡ out.old ++ written (spec.commas spec.arg_words args.now)) }
-{
-    for (place, arg) in args.iter().enumerate() {
-        push_joint(out, ",", place)?;
-        push_arg(alloc, out, arg)?;
-    }
-    Ok(())
-}
-
-/// Adds arguments in brackets, and nothing where there are none.
-#[tactic(auto, using(crate::proofs::ArgumentsWritten::args_written))]
-pub fn push_args(alloc: Global, out: &mut Str, args: &[QArg]) -> Mem<()>
-    ensures { OnOk result (out.new ≡ out.old ++ written (spec.args_words args.now)) }
-{
-    if args.is_empty() {
-        return Ok(());
-    }
-    out.push_str("( ")?;
-    push_all_args(alloc, out, args)?;
-    out.push_str(") ")
-}
-
 /// Adds arguments behind a comma each.
 #[tactic(auto, using(crate::proofs::WordsWritten::listed_more))]
 pub fn push_more_args(alloc: Global, out: &mut Str, args: &[QArg]) -> Mem<()>
@@ -93,6 +69,22 @@ pub fn push_more_args(alloc: Global, out: &mut Str, args: &[QArg]) -> Mem<()>
         push_arg(alloc, out, arg)?;
     }
     Ok(())
+}
+
+/// Adds arguments in brackets, and nothing where there are none.
+#[tactic(auto, using(crate::proofs::WordsWritten::both_in_round))]
+pub fn push_args(alloc: Global, out: &mut Str, args: &[QArg]) -> Mem<()>
+    ensures { OnOk result (out.new ≡ out.old ++ written (spec.args_words args.now)) }
+{
+    match args {
+        [] => Ok(()),
+        [first, more @ ..] => {
+            out.push_str("( ")?;
+            push_arg(alloc, out, first)?;
+            push_more_args(alloc, out, more)?;
+            out.push_str(") ")
+        }
+    }
 }
 
 // The word of a truth value.
@@ -119,29 +111,32 @@ fn push_opt(alloc: Global, out: &mut Str, option: QOpt) -> Mem<()>
     }
 }
 
-// Adds options with a comma between any two.
-#[tactic(auto, using(crate::proofs::WordsWritten::joined_more))]
-fn push_all_opts(alloc: Global, out: &mut Str, options: &[QOpt]) -> Mem<()>
-    ensures { OnOk result (out.new ≡ out.old ++ written (spec.commas spec.opt_words options.now)) }
+// Adds options behind a comma each.
+#[tactic(auto, using(crate::proofs::WordsWritten::listed_more))]
+fn push_more_opts(alloc: Global, out: &mut Str, options: &[QOpt]) -> Mem<()>
+    ensures { OnOk result (out.new ≡ out.old ++ written (flat_map (λ o. mark_word comma ∷ spec.opt_words o) options.now)) }
 {
-    for (place, option) in options.iter().enumerate() {
-        push_joint(out, ",", place)?;
+    for option in options {
+        out.push_str(", ")?;
         push_opt(alloc, out, *option)?;
     }
     Ok(())
 }
 
 // Adds options in brackets, and nothing where there are none.
-#[tactic(auto, using(crate::proofs::ArgumentsWritten::opts_written))]
+#[tactic(auto, using(crate::proofs::WordsWritten::both_in_round))]
 fn push_opts(alloc: Global, out: &mut Str, options: &[QOpt]) -> Mem<()>
     ensures { OnOk result (out.new ≡ out.old ++ written (spec.opts_words options.now)) }
 {
-    if options.is_empty() {
-        return Ok(());
+    match options {
+        [] => Ok(()),
+        [first, more @ ..] => {
+            out.push_str("( ")?;
+            push_opt(alloc, out, *first)?;
+            push_more_opts(alloc, out, more)?;
+            out.push_str(") ")
+        }
     }
-    out.push_str("( ")?;
-    push_all_opts(alloc, out, options)?;
-    out.push_str(") ")
 }
 
 // Adds `@filter` and its filter.

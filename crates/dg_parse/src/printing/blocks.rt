@@ -84,8 +84,10 @@ pub fn push_query(alloc: Global, out: &mut Str, query: &Query) -> Mem<()>
 
 impl Query {
     /// The query as a text in its printed form: its words with a blank behind each, no more brackets in a filter than it
-    /// needs, and a comma behind each field. The text is read as the same query again, as
-    /// [`queries_read_back`](crate::queries_read_back) says.
+    /// needs, and a comma behind each field. For a query that a text says, this text says the same query, as
+    /// [`queries_read_back`](crate::queries_read_back) says. A query put together in another way may be one that no text
+    /// says; of its printed text nothing more is known than the form. The text may be longer than [`parse`](crate::parse)
+    /// takes.
     pub fn text_of(&self, alloc: Global) -> Mem<String>
         ensures { IfOk result (λ text. string_bytes text ≡ spec.query_text self.now) }
     {

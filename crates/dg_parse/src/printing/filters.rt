@@ -3,57 +3,14 @@ ghost use Rattle.std.specs.Prelude.{◌≡◌, ◌++◌, OnOk, map, codes};
 ghost use Rattle.dg_text.specs.Spelling.{name_word};
 ghost use Rattle.dg_text.specs.Written.{written};
 ghost use Rattle.dg_parse.specs.Printed as spec;
-ghost use Rattle.dg_parse.specs.Printing.{words_in, or_is_bare, and_is_bare};
+ghost use Rattle.dg_parse.specs.Printing.{words_in};
 
+use super::brackets::{Within, and_is_bare, or_is_bare, push_nots};
 use super::functions::push_func;
 use super::words::push_joint;
 use crate::{QFilter, QFunc, QPart};
 use dg_values::{Mem, Str};
 use std::alloc::Global;
-
-/// What a filter stands in.
-#[derive(Clone, Copy, Debug)]
-pub enum Within {
-    /// Brackets: an `or` may stand in them.
-    Brackets,
-    /// An `or`: an `and` may stand in it.
-    Or,
-    /// An `and`: neither may stand in it.
-    And,
-}
-
-// Adds so many `not`.
-#[tactic(auto, using(crate::proofs::FiltersWritten::nots_more))]
-fn push_nots(out: &mut Str, nots: usize) -> Mem<()>
-    ensures { OnOk result (out.new ≡ out.old ++ written (spec.nots nots)) }
-{
-    for _not in 0..nots {
-        out.push_str("not ")?;
-    }
-    Ok(())
-}
-
-// Whether an `or` after so many `not` stands without brackets.
-fn or_is_bare(within: Within, nots: usize) -> bool
-    ensures { result ≡ or_is_bare within nots }
-{
-    match within {
-        Within::Brackets => nots == 0,
-        Within::Or => false,
-        Within::And => false,
-    }
-}
-
-// Whether an `and` after so many `not` stands without brackets.
-fn and_is_bare(within: Within, nots: usize) -> bool
-    ensures { result ≡ and_is_bare within nots }
-{
-    match within {
-        Within::Brackets => nots == 0,
-        Within::Or => nots == 0,
-        Within::And => false,
-    }
-}
 
 // Adds a function after so many `not`.
 #[tactic(auto, using(crate::proofs::FiltersWritten::func_written))]
@@ -65,7 +22,6 @@ fn push_alone(alloc: Global, out: &mut Str, within: Within, nots: usize, func: &
 }
 
 // Adds filters with a word between any two.
-#[tactic(auto, using(crate::proofs::WordsWritten::joined_more))]
 #[cycle(printed)]
 fn push_joined(
     alloc: Global,
@@ -103,7 +59,6 @@ fn push_closed(
 }
 
 // Adds an `or` after so many `not`.
-#[tactic(auto, using(crate::proofs::FiltersWritten::or_bare, crate::proofs::FiltersWritten::or_closed))]
 #[cycle(printed)]
 fn push_or(
     alloc: Global,
@@ -122,7 +77,6 @@ fn push_or(
 }
 
 // Adds an `and` after so many `not`.
-#[tactic(auto, using(crate::proofs::FiltersWritten::and_bare, crate::proofs::FiltersWritten::and_closed))]
 #[cycle(printed)]
 fn push_and(
     alloc: Global,

@@ -1,12 +1,12 @@
 // Functions and what stands in their brackets.
-ghost use Rattle.std.specs.Prelude.{◌≡◌, [], ◌∷◌, ◌++◌, OnOk, codes};
+ghost use Rattle.std.specs.Prelude.{◌≡◌, [], ◌∷◌, ◌++◌, flat_map, OnOk, codes};
 ghost use Rattle.dg_text.specs.Marks.{comma};
 ghost use Rattle.dg_text.specs.Quoting.{quoted_word};
 ghost use Rattle.dg_text.specs.Spelling.{mark_word, name_word, regex_word};
 ghost use Rattle.dg_text.specs.Written.{written};
 ghost use Rattle.dg_parse.specs.Printed as spec;
 
-use super::words::{push_joint, push_name, push_opening, push_quoted, push_regex, push_uid};
+use super::words::{push_name, push_opening, push_quoted, push_regex, push_uid};
 use crate::{CmpOp, QEdge, QFunc, QOf, UidArg};
 use dg_values::{Mem, Str};
 use std::alloc::Global;
@@ -31,28 +31,56 @@ fn push_node(alloc: Global, out: &mut Str, node: &UidArg) -> Mem<()>
     }
 }
 
-// Adds nodes with a comma between any two.
-#[tactic(auto, using(crate::proofs::WordsWritten::joined_more))]
-fn push_nodes(alloc: Global, out: &mut Str, nodes: &[UidArg]) -> Mem<()>
-    ensures { OnOk result (out.new ≡ out.old ++ written (spec.commas spec.node_words nodes.now)) }
+// Adds nodes behind a comma each.
+#[tactic(auto, using(crate::proofs::WordsWritten::listed_more))]
+fn push_more_nodes(alloc: Global, out: &mut Str, more: &[UidArg]) -> Mem<()>
+    ensures { OnOk result (out.new ≡ out.old ++ written (flat_map (λ x. mark_word comma ∷ spec.node_words x) more.now)) }
 {
-    for (place, node) in nodes.iter().enumerate() {
-        push_joint(out, ",", place)?;
+    for node in more {
+        out.push_str(", ")?;
         push_node(alloc, out, node)?;
     }
     Ok(())
 }
 
-// Adds literals with a comma between any two.
-#[tactic(auto, using(crate::proofs::WordsWritten::joined_more))]
-fn push_literals(alloc: Global, out: &mut Str, literals: &[Str]) -> Mem<()>
-    ensures { OnOk result (out.new ≡ out.old ++ written (spec.commas spec.lit_words literals.now)) }
+// Adds nodes with a comma between any two.
+#[tactic(auto, using(crate::proofs::WordsWritten::two_written))]
+fn push_nodes(alloc: Global, out: &mut Str, nodes: &[UidArg]) -> Mem<()>
+    ensures { OnOk result (out.new ≡ out.old ++ written (spec.commas spec.node_words nodes.now)) }
 {
-    for (place, literal) in literals.iter().enumerate() {
-        push_joint(out, ",", place)?;
+    match nodes {
+        [] => Ok(()),
+        [first, more @ ..] => {
+            push_node(alloc, out, first)?;
+            push_more_nodes(alloc, out, more)
+        }
+    }
+}
+
+// Adds literals behind a comma each.
+#[tactic(auto, using(crate::proofs::WordsWritten::listed_more))]
+fn push_more_literals(alloc: Global, out: &mut Str, more: &[Str]) -> Mem<()>
+    ensures { OnOk result (out.new ≡ out.old ++ written (flat_map (λ x. mark_word comma ∷ spec.lit_words x) more.now)) }
+{
+    for literal in more {
+        out.push_str(", ")?;
         push_quoted(alloc, out, literal.as_str())?;
     }
     Ok(())
+}
+
+// Adds literals with a comma between any two.
+#[tactic(auto, using(crate::proofs::WordsWritten::two_written))]
+fn push_literals(alloc: Global, out: &mut Str, literals: &[Str]) -> Mem<()>
+    ensures { OnOk result (out.new ≡ out.old ++ written (spec.commas spec.lit_words literals.now)) }
+{
+    match literals {
+        [] => Ok(()),
+        [first, more @ ..] => {
+            push_quoted(alloc, out, first.as_str())?;
+            push_more_literals(alloc, out, more)
+        }
+    }
 }
 
 /// Adds the value of a variable.
@@ -86,8 +114,8 @@ fn push_of(out: &mut Str, of: &QOf) -> Mem<()>
     }
 }
 
-// The word of a comparison.
-fn cmp_text(op: CmpOp) -> &'static str
+/// The word of a comparison.
+pub fn cmp_text(op: CmpOp) -> &'static str
     ensures { result.now ≡ spec.cmp_text op }
 {
     match op {

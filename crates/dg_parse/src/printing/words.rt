@@ -1,11 +1,10 @@
 // Single words, with a blank behind each.
-ghost use Rattle.std.specs.Prelude.{◌≡◌, ◌∷◌, [], ◌++◌, flat_map, IfOk, OnOk, codes, string_bytes};
+ghost use Rattle.std.specs.Prelude.{◌≡◌, ◌∷◌, [], ◌++◌, flat_map, IfOk, OnOk, codes, if◌then◌else◌, nat_eq, string_bytes};
 ghost use Rattle.std.specs.Char.{encode_utf8};
 ghost use Rattle.dg_text.specs.Quoting.{quoted_word};
 ghost use Rattle.dg_text.specs.Spelling.{flag_text, int_word, name_word, regex_word, slashed, uid_word};
 ghost use Rattle.dg_text.specs.Written.{written};
 ghost use Rattle.dg_parse.specs.Printed.{lit_words};
-ghost use Rattle.dg_parse.specs.Printing.{joint_before};
 
 use dg_text::quoting::quoted;
 use dg_values::{Mem, OutOfMemory, Str};
@@ -29,15 +28,14 @@ pub fn push_opening(out: &mut Str, word: &str) -> Mem<()>
     out.push_str(" ( ")
 }
 
-/// Adds the word between two items before the one at a place.
+/// Adds a word before the item at a place, unless it is the first.
 pub fn push_joint(out: &mut Str, word: &str, place: usize) -> Mem<()>
-    ensures { OnOk result (out.new ≡ out.old ++ joint_before word.now place) }
+    ensures { OnOk result (out.new ≡ out.old ++ written (if nat_eq place 0 then [] else name_word word.now ∷ [])) }
 {
     if place == 0 {
         return Ok(());
     }
-    out.push_str(word)?;
-    out.push_str(" ")
+    push_name(out, word)
 }
 
 /// Adds a node.
