@@ -1,5 +1,5 @@
 -- The fields of a list, found in slots by their keys.
-use Rattle.std.proofs.Common.{◌≡◌, ℕ, zero, suc, ◌<◌, ◌≤◌, ◌+◌, ◌⊎◌, inl, inr, Bool, true, false, ◌||◌, ◌&&◌, List, [], ◌∷◌, ◌++◌, length, replicate, Option, Some, None, refl, sym, ap, subst, ◌∙◌, arith, length-append}
+use Rattle.std.proofs.Common.{◌≡◌, ℕ, zero, suc, ◌<◌, ◌≤◌, ◌+◌, inl, inr, Bool, true, false, ◌||◌, ◌&&◌, List, [], ◌∷◌, ◌++◌, length, replicate, Option, Some, None, refl, sym, ap, subst, ◌∙◌, arith, length-append}
 use Rattle.std.specs.Prelude.{cond, slice_get, slice_set, unwrap_or, if◌then◌else◌, ◌==◌}
 use Rattle.std.specs.BTreeSet.{BTreeSet, contains_by, contains, Updates}
 use Rattle.std.specs.List.{list_any}
@@ -15,7 +15,7 @@ use Rattle.dg_parse.specs.declared.query.QField.{QField}
 use Rattle.dg_parse.specs.declared.query.QItem.TheOpen.{QItem-F}
 use Rattle.dg_parse.specs.declared.query.QItem.TheViews.{out-QItem}
 use Rattle.dg_parse.specs.declared.slots.Slot.{Slot}
-use Rattle.dg_parse.specs.Keys.{edge_text, shown_key, key_of, is_key}
+use Rattle.dg_parse.specs.Keys.{shown_key, key_of, is_key}
 use Rattle.dg_parse.specs.Slots.{plain_shown, alias_or, plain_key, is_same, hash, tag_of, group_of, is_at, is_numbered, holds, is_in_group, is_in, AreWithin, AreIndexed}
 use Rattle.dg_parse.proofs.OwnKeys.{same_test}
 

@@ -1,5 +1,5 @@
 -- Where the fields of a list stand by their keys: groups of slots, of which the hash of a key picks one.
-use Rattle.std.specs.Prelude.{ℕ, zero, suc, ◌+◌, ◌*◌, ◌/◌, ◌%◌, ◌^◌, ◌≤◌, ◌≡◌, Bool, false, ◌||◌, ◌&&◌, ◌==◌, List, length, Option, Some, None, slice_get, if◌then◌else◌}
+use Rattle.std.specs.Prelude.{ℕ, zero, suc, ◌*◌, ◌/◌, ◌%◌, ◌^◌, ◌≤◌, ◌≡◌, Bool, false, ◌||◌, ◌&&◌, ◌==◌, List, length, Option, Some, None, slice_get, if◌then◌else◌}
 use Rattle.std.specs.BTreeSet.{BTreeSet, contains_by}
 use Rattle.std.specs.Hash.FoldHasher as folding
 use Rattle.std.specs.List.{list_any}
@@ -65,7 +65,7 @@ abbrev pub is_in_group : List QField → List ℕ → Option (List Slot) → Boo
 is_in_group fields key None = false
 is_in_group fields key (Some group) = list_any (holds fields key) group
 
--- a slot is that of this key
+-- a slot of the group that the hash of this key picks is that of this key
 abbrev pub is_in : List QField → List (List Slot) → List ℕ → Bool
 is_in fields groups key = is_in_group fields key (slice_get groups (group_of (length groups) (hash key)))
 

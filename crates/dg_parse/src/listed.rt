@@ -13,8 +13,8 @@ use std::alloc::{AllocFailed, Global};
 use std::collections::BTreeSet;
 use std::marker::Model;
 
-/// Fields of one list, which contracts see in their order. A key is looked up in one group of slots, and where its group is
-/// full, in a tree.
+/// Fields of one list, which contracts see in their order. A key is looked up in one group of slots, and among those that
+/// have no slot in about as many steps as their number has bits.
 #[derive(Drop)]
 pub struct Fields {
     fields: List<QField>,

@@ -129,7 +129,7 @@ fn is_in_group(fields: &[QField], group: &[Slot], tag: u32, key: &str) -> bool
     group.iter().any(|slot| holds(fields, *slot, tag, key))
 }
 
-// Whether a slot is that of this key.
+// Whether a slot of the group that the hash of this key picks is that of this key.
 fn is_in(fields: &[QField], groups: &[[Slot; 8]], key: &str) -> bool
     ensures { result ≡ spec.is_in fields.now groups.now key.now }
 {
@@ -269,7 +269,7 @@ fn free_groups(alloc: Global, count: usize) -> Result<Vec<[Slot; 8]>, ReadError>
     Ok(vec![in alloc; [FREE; 8]; count]?)
 }
 
-/// The keys of fields, in so many groups.
+// The keys of fields, in so many groups.
 fn grouped(alloc: Global, count: usize, fields: &[QField]) -> Result<Index, ReadError>
     ensures made { IfOk result (λ all. spec.AreIndexed fields.now all.groups.items all.others) }
     ensures memory { IfErr result (λ e. e ≡ errors.OutOfMemory) }
