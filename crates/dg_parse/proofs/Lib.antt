@@ -1,6 +1,7 @@
 -- What the proofs of the grammar share.
 pub mod Few
 pub mod OwnKeys
+pub mod Slotted
 pub mod Room
 pub mod Even
 pub mod EvenBlocks

@@ -21,7 +21,7 @@ one_more true false = refl
 one_more false true = refl
 one_more false false = refl
 
-same_test : (a b : List ℕ) → is_eq (text_cmp a b) ≡ bytes_eq b a
+pub same_test : (a b : List ℕ) → is_eq (text_cmp a b) ≡ bytes_eq b a
 same_test a b = is_eq-slice_cmp a b ∙ nat_list_eq_equiv.symm a b
 
 module _ {X : Type 0} (key : X → List ℕ) (items : List X) (item : X) (before after : BTreeSet (List ℕ)) where

@@ -9,6 +9,7 @@ pub mod Filters
 pub mod Arguments
 pub mod Directives
 pub mod Keys
+pub mod Slots
 pub mod Fields
 pub mod Grammar
 pub mod Conditions

@@ -26,6 +26,7 @@ mod options;
 mod printing;
 mod query;
 mod reading;
+mod slots;
 mod tokens;
 mod upsert;
 mod upserts;

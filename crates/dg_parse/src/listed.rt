@@ -1,10 +1,10 @@
-// The fields of a list and the blocks of a text so far, with their keys and names in ascending order.
+// The fields of a list with their keys, and the blocks of a text so far with their names in ascending order.
 ghost use Rattle.std.specs.Prelude.{◌≡◌, ◌++◌, ◌∷◌, [], IfOk, IfErr};
 ghost use Rattle.dg_text.specs.declared.reading.ReadError.TheVariants as errors;
 ghost use Rattle.dg_parse.specs.Keys.{is_key, is_alias};
 ghost use Rattle.dg_parse.specs.Grammar.{is_block};
 
-use crate::keys::key_of;
+use crate::slots::{Index, with_key};
 use crate::{QBlock, QField};
 use dg_text::ReadError;
 use dg_text::texts::owned;
@@ -13,23 +13,21 @@ use std::alloc::{AllocFailed, Global};
 use std::collections::BTreeSet;
 use std::marker::Model;
 
-/// Fields of one list, which contracts see in their order. A key is looked up in about as many steps as the number of
-/// fields has bits.
+/// Fields of one list, which contracts see in their order. A key is looked up in one group of slots, and among those that
+/// have no slot in about as many steps as their number has bits.
 #[derive(Drop)]
 pub struct Fields {
     fields: List<QField>,
-    keys: BTreeSet<Str>,
+    index: Index,
 }
 
 impl Model for Fields {
-    ghost use Rattle.std.specs.Prelude.{◌≡◌, List, ℕ};
-    ghost use Rattle.std.specs.BTreeSet.{contains_by};
+    ghost use Rattle.std.specs.Prelude.{List};
     ghost use Rattle.std.specs.Coded.{codes};
-    ghost use Rattle.dg_values.specs.Order.{text_cmp};
     ghost use Rattle.dg_parse.specs.contracts.query.QItem as item;
     ghost use Rattle.dg_parse.specs.contracts.query.QPart as part;
     ghost use Rattle.dg_parse.specs.declared.query.QField.{QField};
-    ghost use Rattle.dg_parse.specs.Keys.{is_key};
+    ghost use Rattle.dg_parse.specs.Slots.{AreIndexed};
 
     ghost Value = { List QField };
 
@@ -37,7 +35,7 @@ impl Model for Fields {
 
     ghost view = { λ f. f.fields };
 
-    ghost invariant = { λ f. (key : List ℕ) → contains_by (text_cmp key) f.keys ≡ is_key f.fields key };
+    ghost invariant = { λ f. AreIndexed f.fields f.index.groups.items f.index.others };
 }
 
 impl Fields {
@@ -47,7 +45,7 @@ impl Fields {
     {
         Fields {
             fields: List::new(alloc),
-            keys: BTreeSet::new(alloc),
+            index: Index::none(alloc),
         }
     }
 
@@ -55,7 +53,7 @@ impl Fields {
     pub fn has_key(&self, key: &Str) -> bool
         ensures { result ≡ is_key self.now key.now }
     {
-        self.keys.contains(key)
+        self.index.has(self.fields.as_slice(), key)
     }
 
     /// Whether a field has this key, where there is one.
@@ -73,14 +71,10 @@ impl Fields {
         ensures made { IfOk result (λ all. all ≡ self ++ field ∷ []) }
         ensures memory { IfErr result (λ e. e ≡ errors.OutOfMemory) }
     {
-        let Fields {
-            mut fields,
-            mut keys,
-        } = self;
-        let key = key_of(alloc, &field)?;
+        let Fields { mut fields, index } = self;
+        let index = with_key(alloc, index, fields.as_slice(), &field)?;
         fields.push(field)?;
-        keys.insert(key)?;
-        Ok(Fields { fields, keys })
+        Ok(Fields { fields, index })
     }
 
     /// The fields. It takes no memory.
