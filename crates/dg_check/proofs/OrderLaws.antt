@@ -1,5 +1,5 @@
 -- In the order in which blocks run each comes after those that it depends on.
-use Rattle.std.proofs.Common.{◌≡◌, ℕ, zero, suc, ◌+◌, Bool, true, false, cond, List, [], ◌∷◌, ◌++◌, refl, sym, ap, ◌∙◌, subst, arith}
+use Rattle.std.proofs.Common.{◌≡◌, ℕ, suc, ◌+◌, Bool, true, false, cond, List, [], ◌∷◌, ◌++◌, refl, sym, ap, ◌∙◌, subst, arith}
 use Rattle.std.specs.Prelude.{Option, Some, None, not, ◌&&◌}
 use Rattle.std.specs.List.{list_all}
 use Rattle.dg_check.specs.Cycles.{is_place_in}
