@@ -1,0 +1,9 @@
+-- What is wrong with a query, and in which order its blocks run.
+pub mod Places
+pub mod Names
+pub mod Variables
+pub mod Blocks
+pub mod Cycles
+pub mod RunOrder
+pub mod Faults
+pub mod Patterns

@@ -1,0 +1,65 @@
+// The names that each block defines and uses.
+ghost use Rattle.std.specs.Prelude.{◌≡◌, IfOk, map};
+ghost use Rattle.dg_check.specs.Places.{places_met, places_of_block};
+ghost use Rattle.dg_check.specs.Variables.{uses_met};
+ghost use Rattle.dg_check.specs.Blocks.{names_of_block, names_of_blocks};
+
+use crate::names::Names;
+use crate::places::{Place, places_of_block};
+use crate::uses::{Use, uses_of_places};
+use crate::variables::{all_names, definitions_of};
+use dg_parse::QBlock;
+use dg_schema::Schema;
+use dg_values::{Mem, OutOfMemory};
+use std::alloc::Global;
+
+/// The names that a block defines, and those that it uses.
+#[derive(Drop)]
+pub struct BlockNames<'a> {
+    /// The names that it defines.
+    pub defined: Names<'a>,
+    /// The names that it uses.
+    pub used: Names<'a>,
+}
+
+// The names of variables that are used.
+fn used_names<'a>(alloc: Global, uses: &[Use<'a>]) -> Mem<Names<'a>>
+    ensures { IfOk result (λ names. names ≡ map (λ u. u.name) (uses_met uses.now)) }
+{
+    let mut names = Names::none(alloc);
+    for used in uses {
+        names.push(used.name)?;
+    }
+    Ok(names)
+}
+
+// The names that the places of a block define and use. What these variables have isn't asked, so no schema is needed.
+fn names_of_block<'a>(alloc: Global, places: &[Place<'a>]) -> Mem<BlockNames<'a>>
+    ensures { IfOk result (λ names. names ≡ names_of_block (places_met places.now)) }
+{
+    let schema = Schema::new(alloc);
+    let definitions = definitions_of(alloc, &schema, places)?;
+    let defined = all_names(alloc, definitions.as_slice())?;
+    let uses = uses_of_places(alloc, places)?;
+    let used = used_names(alloc, uses.as_slice())?;
+    Ok(BlockNames { defined, used })
+}
+
+// The names that a block defines and uses.
+fn names_of_one<'a>(alloc: Global, block: &'a QBlock) -> Mem<BlockNames<'a>>
+    ensures { IfOk result (λ names. names ≡ names_of_block (places_of_block block.now)) }
+{
+    let places = places_of_block(alloc, block)?;
+    names_of_block(alloc, places.as_slice())
+}
+
+/// The names that each block defines and uses.
+pub fn names_of_blocks<'a>(alloc: Global, blocks: &'a [QBlock]) -> Mem<Vec<BlockNames<'a>>>
+    ensures { IfOk result (λ names. names.items ≡ names_of_blocks blocks.now) }
+{
+    let mut names = Vec::new(alloc);
+    for block in blocks {
+        names.push(names_of_one(alloc, block)?)?;
+    }
+    Ok(names)
+}

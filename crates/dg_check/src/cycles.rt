@@ -1,0 +1,154 @@
+// Which variables are used in a block on which their own block depends, by the definition: it looks at all pairs of blocks.
+ghost use Rattle.std.specs.Prelude.{◌≡◌, IfOk, find, flat_map};
+ghost use Rattle.std.specs.List.{list_any};
+ghost use Rattle.dg_values.specs.Ascending.{ascending};
+ghost use Rattle.dg_values.specs.Order.{text_cmp};
+ghost use Rattle.dg_check.specs.Cycles.{is_place_in, uses_of, uses_at, uses_name_at, is_reached, with_used, definers, depended_on, is_circular, least_circular};
+ghost use Rattle.dg_check.specs.Faults.{cycle};
+
+use crate::CheckFault;
+use crate::blocks::BlockNames;
+use dg_sets::in_order;
+use dg_values::{Mem, OutOfMemory, Str};
+use std::alloc::Global;
+
+/// Whether a block is one of these.
+pub fn is_place_in(places: &[usize], at: usize) -> bool
+    ensures { result ≡ is_place_in places.now at }
+{
+    places.iter().any(|place| *place == at)
+}
+
+// Whether one block uses a variable of the other.
+fn uses_of(user: &BlockNames<'_>, definer: &BlockNames<'_>) -> bool
+    ensures { result ≡ uses_of user.now definer.now }
+{
+    user.used.any_in(&definer.defined)
+}
+
+// Whether the block at a place uses a variable of the other.
+fn uses_at(blocks: &[BlockNames<'_>], user: usize, definer: &BlockNames<'_>) -> bool
+    ensures { result ≡ uses_at blocks.now user definer.now }
+{
+    match blocks.get(user) {
+        None => false,
+        Some(block) => uses_of(block, definer),
+    }
+}
+
+// Whether the block at a place uses this variable.
+fn uses_name_at(blocks: &[BlockNames<'_>], name: &str, user: usize) -> bool
+    ensures { result ≡ uses_name_at blocks.now name.now user }
+{
+    match blocks.get(user) {
+        None => false,
+        Some(block) => block.used.has(name),
+    }
+}
+
+// Whether one of these blocks uses a variable of the other.
+fn any_uses(blocks: &[BlockNames<'_>], users: &[usize], block: &BlockNames<'_>) -> bool
+    ensures { result ≡ list_any (λ user. uses_at blocks.now user block.now) users.now }
+{
+    users.iter().any(|user| uses_at(blocks, *user, block))
+}
+
+// Whether one of these blocks uses this variable.
+fn any_uses_name(blocks: &[BlockNames<'_>], users: &[usize], name: &str) -> bool
+    ensures { result ≡ list_any (uses_name_at blocks.now name.now) users.now }
+{
+    users.iter().any(|user| uses_name_at(blocks, name, *user))
+}
+
+// Whether a block is one of these, or one of these uses its variables.
+fn is_reached(blocks: &[BlockNames<'_>], some: &[usize], at: usize, block: &BlockNames<'_>) -> bool
+    ensures { result ≡ is_reached blocks.now some.now at block.now }
+{
+    is_place_in(some, at) || any_uses(blocks, some, block)
+}
+
+// These blocks and those whose variables they use.
+fn with_used(alloc: Global, blocks: &[BlockNames<'_>], some: &[usize]) -> Mem<Vec<usize>>
+    ensures { IfOk result (λ places. places.items ≡ with_used blocks.now some.now) }
+{
+    let mut out = Vec::new(alloc);
+    for (at, block) in blocks.iter().enumerate() {
+        if is_reached(blocks, some, at, block) {
+            out.push(at)?;
+        }
+    }
+    Ok(out)
+}
+
+/// The blocks that define a variable.
+pub fn definers(alloc: Global, blocks: &[BlockNames<'_>], name: &str) -> Mem<Vec<usize>>
+    ensures { IfOk result (λ places. places.items ≡ definers blocks.now name.now) }
+{
+    let mut out = Vec::new(alloc);
+    for (at, block) in blocks.iter().enumerate() {
+        if block.defined.has(name) {
+            out.push(at)?;
+        }
+    }
+    Ok(out)
+}
+
+// The blocks on which that of a variable depends.
+fn depended_on(alloc: Global, blocks: &[BlockNames<'_>], name: &str) -> Mem<Vec<usize>>
+    ensures { IfOk result (λ places. places.items ≡ depended_on blocks.now name.now) }
+{
+    let mut some = definers(alloc, blocks, name)?;
+    for _turn in blocks {
+        some = with_used(alloc, blocks, some.as_slice())?;
+    }
+    Ok(some)
+}
+
+// Whether a variable is used in a block on which its own depends.
+fn is_circular(alloc: Global, blocks: &[BlockNames<'_>], name: &str) -> Mem<bool>
+    ensures { IfOk result (λ b. b ≡ is_circular blocks.now name.now) }
+{
+    let places = depended_on(alloc, blocks, name)?;
+    Ok(any_uses_name(blocks, places.as_slice(), name))
+}
+
+// The first of these names that is circular.
+fn first_circular(alloc: Global, blocks: &[BlockNames<'_>], names: &[Str]) -> Mem<Option<Str>>
+    ensures { IfOk result (λ found. found ≡ find (is_circular blocks.now) names.now) }
+{
+    for name in names {
+        if is_circular(alloc, blocks, name.as_str())? {
+            return Ok(Some(name.copy(alloc)?));
+        }
+    }
+    Ok(None)
+}
+
+// The names that blocks define, in ascending order.
+fn names_in_order(alloc: Global, blocks: &[BlockNames<'_>]) -> Mem<Vec<Str>>
+    ensures { IfOk result (λ names. names.items ≡ ascending text_cmp (flat_map (λ block. block.defined) blocks.now)) }
+{
+    let mut names = Vec::new(alloc);
+    for block in blocks {
+        block.defined.add_copies(alloc, &mut names)?;
+    }
+    Ok(in_order(names))
+}
+
+// The least variable that is used in a block on which its own depends.
+fn least_circular(alloc: Global, blocks: &[BlockNames<'_>]) -> Mem<Option<Str>>
+    ensures { IfOk result (λ found. found ≡ least_circular blocks.now) }
+{
+    let names = names_in_order(alloc, blocks)?;
+    first_circular(alloc, blocks, names.as_slice())
+}
+
+/// The fault of the least circular variable, where there is one.
+pub fn cycle(alloc: Global, blocks: &[BlockNames<'_>]) -> Mem<Option<CheckFault>>
+    ensures { IfOk result (λ found. found ≡ cycle blocks.now) }
+{
+    match least_circular(alloc, blocks)? {
+        None => Ok(None),
+        Some(name) => Ok(Some(CheckFault::VariableCycle { name })),
+    }
+}
