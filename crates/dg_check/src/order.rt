@@ -1,11 +1,11 @@
 // The order in which the blocks run: by counts of what each still needs, and then by the definition, which finds none left.
-ghost use Rattle.std.specs.Prelude.{◌≡◌, ℕ, [], true, map, length, slice_get, IfOk, OnOk};
+ghost use Rattle.std.specs.Prelude.{◌≡◌, ◌<◌, ◌↔◌, ℕ, [], true, map, length, slice_get, IfOk, OnOk, IsTrue};
 ghost use Rattle.std.specs.List.{list_all};
 ghost use Rattle.dg_check.specs.Blocks.{names_of_blocks};
 ghost use Rattle.dg_check.specs.Cycles.{is_place_in};
 ghost use Rattle.dg_check.specs.RunOrder.{dependencies, first_ready, run_more, run_order, order_of, is_ordered, is_ready, are_ready};
 
-use crate::blocks::names_of_blocks;
+use crate::blocks::{BlockNames, names_of_blocks};
 use crate::needs::dependencies;
 use crate::ran::Ran;
 use dg_parse::Query;
@@ -40,6 +40,8 @@ fn run_if_ready(deps: &[List<usize>], ran: &mut Ran, at: usize) -> Mem<()>
     }
     ran.push(at)
 }
+
+// The functions from here to `run_free` decide only which blocks are tried, and when: whether one runs, `run_if_ready` tests.
 
 // Adds a block to the users of each block that it needs.
 fn add_user(users: &mut [Vec<usize>], needs: &[usize], at: usize) -> Mem<()> {
@@ -170,15 +172,36 @@ fn run_rest(deps: &[List<usize>], ran: &mut Ran) -> Mem<()>
     Ok(())
 }
 
-// The places of the blocks that can run, each behind those that it needs.
-fn run_order(alloc: Global, deps: &[List<usize>]) -> Mem<Vec<usize>>
-    ensures ready { IfOk result (λ order. are_ready deps.now [] order.items ≡ true) }
-    ensures same { IfOk result (λ order. (at : ℕ) → is_place_in order.items at ≡ is_place_in (run_order deps.now) at) }
+// The blocks that can run, each behind those that it needs.
+fn run_blocks(alloc: Global, deps: &[List<usize>]) -> Mem<Ran>
+    ensures ready { IfOk result (λ ran. are_ready deps.now [] ran ≡ true) }
+    ensures same { IfOk result (λ ran. (at : ℕ) → is_place_in ran at ≡ is_place_in (run_order deps.now) at) }
 {
     let mut ran = Ran::none(alloc);
     run_free(alloc, deps, &mut ran)?;
     run_rest(deps, &mut ran)?;
-    Ok(ran.into_order())
+    Ok(ran)
+}
+
+// Whether all of so many blocks have run.
+fn have_all_run(ran: &Ran, count: usize) -> bool
+    ensures { IsTrue result ↔ ((at : ℕ) → at < count → is_place_in ran.now at ≡ true) }
+{
+    for at in 0..count {
+        if !ran.has(at) {
+            return false;
+        }
+    }
+    true
+}
+
+/// Whether all blocks can run, so that none waits for itself.
+pub fn can_all_run(alloc: Global, blocks: &[BlockNames<'_>]) -> Mem<bool>
+    ensures { IfOk result (λ all. IsTrue all ↔ ((at : ℕ) → at < length blocks.now → is_place_in (run_order (dependencies blocks.now)) at ≡ true)) }
+{
+    let deps = dependencies(alloc, blocks)?;
+    let ran = run_blocks(alloc, deps.as_slice())?;
+    Ok(have_all_run(&ran, blocks.len()))
 }
 
 /// The places of a query's blocks in an order in which they can run: each is a block that hasn't run, and comes after those
@@ -192,5 +215,5 @@ pub fn order_of(alloc: Global, query: &Query) -> Mem<Vec<usize>>
 {
     let blocks = names_of_blocks(alloc, query.blocks.as_slice())?;
     let deps = dependencies(alloc, blocks.as_slice())?;
-    run_order(alloc, deps.as_slice())
+    Ok(run_blocks(alloc, deps.as_slice())?.into_order())
 }
