@@ -1,4 +1,5 @@
-// Which variables are used in a block on which their own block depends, by the definition: it looks at all pairs of blocks.
+// Which variables are used in a block on which their own block depends: none where all blocks can run, and else by the
+// definition, which looks at all pairs of blocks.
 ghost use Rattle.std.specs.Prelude.{◌≡◌, IfOk, find, flat_map};
 ghost use Rattle.std.specs.List.{list_any};
 ghost use Rattle.dg_values.specs.Ascending.{ascending};
@@ -8,12 +9,13 @@ ghost use Rattle.dg_check.specs.Faults.{cycle};
 
 use crate::CheckFault;
 use crate::blocks::BlockNames;
+use crate::order::can_all_run;
 use dg_sets::in_order;
 use dg_values::{Mem, OutOfMemory, Str};
 use std::alloc::Global;
 
-/// Whether a block is one of these.
-pub fn is_place_in(places: &[usize], at: usize) -> bool
+// Whether a block is one of these.
+fn is_place_in(places: &[usize], at: usize) -> bool
     ensures { result ≡ is_place_in places.now at }
 {
     places.iter().any(|place| *place == at)
@@ -80,8 +82,8 @@ fn with_used(alloc: Global, blocks: &[BlockNames<'_>], some: &[usize]) -> Mem<Ve
     Ok(out)
 }
 
-/// The blocks that define a variable.
-pub fn definers(alloc: Global, blocks: &[BlockNames<'_>], name: &str) -> Mem<Vec<usize>>
+// The blocks that define a variable.
+fn definers(alloc: Global, blocks: &[BlockNames<'_>], name: &str) -> Mem<Vec<usize>>
     ensures { IfOk result (λ places. places.items ≡ definers blocks.now name.now) }
 {
     let mut out = Vec::new(alloc);
@@ -143,10 +145,14 @@ fn least_circular(alloc: Global, blocks: &[BlockNames<'_>]) -> Mem<Option<Str>>
     first_circular(alloc, blocks, names.as_slice())
 }
 
-/// The fault of the least circular variable, where there is one.
+/// The fault of the least circular variable, where there is one. Where all blocks can run there is none.
 pub fn cycle(alloc: Global, blocks: &[BlockNames<'_>]) -> Mem<Option<CheckFault>>
     ensures { IfOk result (λ found. found ≡ cycle blocks.now) }
 {
+    let all = can_all_run(alloc, blocks)?;
+    if all {
+        return Ok(None);
+    }
     match least_circular(alloc, blocks)? {
         None => Ok(None),
         Some(name) => Ok(Some(CheckFault::VariableCycle { name })),

@@ -1,80 +1,219 @@
-// The order in which the blocks run, by the definition: for each turn it looks at all blocks.
-ghost use Rattle.std.specs.Prelude.{◌≡◌, [], true, map, flat_map, IfOk};
+// The order in which the blocks run: by counts of what each still needs, and then by the definition, which finds none left.
+ghost use Rattle.std.specs.Prelude.{◌≡◌, ◌<◌, ◌↔◌, ℕ, [], true, map, length, slice_get, IfOk, OnOk, IsTrue};
 ghost use Rattle.std.specs.List.{list_all};
 ghost use Rattle.dg_check.specs.Blocks.{names_of_blocks};
-ghost use Rattle.dg_check.specs.Cycles.{is_place_in, definers};
-ghost use Rattle.dg_check.specs.RunOrder.{dependencies, first_ready, run_order, order_of, is_ordered};
+ghost use Rattle.dg_check.specs.Cycles.{is_place_in};
+ghost use Rattle.dg_check.specs.RunOrder.{dependencies, first_ready, run_more, run_order, order_of, is_ordered, is_ready, are_ready};
 
 use crate::blocks::{BlockNames, names_of_blocks};
-use crate::cycles::{definers, is_place_in};
+use crate::needs::dependencies;
+use crate::ran::Ran;
 use dg_parse::Query;
 use dg_values::{List, Mem, OutOfMemory};
 use std::alloc::Global;
+use std::collections::BTreeSet;
 
-// Whether all blocks that are needed are among these.
-fn are_places_in(places: &[usize], needs: &[usize]) -> bool
-    ensures { result ≡ list_all (is_place_in places.now) needs.now }
+// Whether all blocks that are needed have run.
+fn have_run(ran: &Ran, needs: &[usize]) -> bool
+    ensures { result ≡ list_all (is_place_in ran.now) needs.now }
 {
-    needs.iter().all(|at| is_place_in(places, *at))
+    needs.iter().all(|at| ran.has(*at))
+}
+
+// Whether there is a block at a place that hasn't run, and all that it needs have.
+fn is_ready(deps: &[List<usize>], ran: &Ran, at: usize) -> bool
+    ensures { result ≡ is_ready ran.now at (slice_get deps.now at) }
+{
+    match deps.get(at) {
+        None => false,
+        Some(needs) => !ran.has(at) && have_run(ran, needs.as_slice()),
+    }
+}
+
+// Lets a block run, if it is ready.
+fn run_if_ready(deps: &[List<usize>], ran: &mut Ran, at: usize) -> Mem<()>
+    requires { are_ready deps.now [] ran.old ≡ true }
+    ensures { OnOk result (are_ready deps.now [] ran.new ≡ true) }
+{
+    if !is_ready(deps, ran, at) {
+        return Ok(());
+    }
+    ran.push(at)
+}
+
+// The functions from here to `run_free` decide only which blocks are tried, and when: whether one runs, `run_if_ready` tests.
+
+// Adds a block to the users of each block that it needs.
+fn add_user(users: &mut [Vec<usize>], needs: &[usize], at: usize) -> Mem<()> {
+    for need in needs {
+        if let Some(known) = users.get_mut(*need) {
+            known.push(at)?;
+        }
+    }
+    Ok(())
+}
+
+// So many empty lists.
+fn empty_lists(alloc: Global, count: usize) -> Mem<Vec<Vec<usize>>> {
+    let mut lists = Vec::new(alloc);
+    for _list in 0..count {
+        lists.push(Vec::new(alloc))?;
+    }
+    Ok(lists)
+}
+
+// For each block those that need it, each as often as it does.
+fn users_of(alloc: Global, deps: &[List<usize>]) -> Mem<Vec<Vec<usize>>> {
+    let mut users = empty_lists(alloc, deps.len())?;
+    for (at, needs) in deps.iter().enumerate() {
+        add_user(users.as_mut_slice(), needs.as_slice(), at)?;
+    }
+    Ok(users)
+}
+
+// For each block how many needs it has.
+fn counts_of(alloc: Global, deps: &[List<usize>]) -> Mem<Vec<usize>>
+    ensures { IfOk result (λ counts. counts.items ≡ map length deps.now) }
+{
+    let mut counts = Vec::new(alloc);
+    for needs in deps {
+        counts.push(needs.len())?;
+    }
+    Ok(counts)
+}
+
+// The blocks that need none.
+fn free_blocks(alloc: Global, deps: &[List<usize>]) -> Mem<BTreeSet<usize>> {
+    let mut free = BTreeSet::new(alloc);
+    for (at, needs) in deps.iter().enumerate() {
+        if needs.is_empty() {
+            free.insert(at)?;
+        }
+    }
+    Ok(free)
+}
+
+// Counts one need less, and tells whether it was the last.
+fn is_last(counts: &mut [usize], at: usize) -> bool {
+    match counts.get_mut(at) {
+        None => false,
+        Some(count) => {
+            *count = count.saturating_sub(1);
+            *count == 0
+        }
+    }
+}
+
+// One need less for each of these blocks; those without one are free.
+fn release(users: &[usize], counts: &mut [usize], free: &mut BTreeSet<usize>) -> Mem<()> {
+    for user in users {
+        if is_last(counts, *user) {
+            free.insert(*user)?;
+        }
+    }
+    Ok(())
+}
+
+// The users of the block at a place.
+fn users_at(users: &[Vec<usize>], at: usize) -> &[usize] {
+    match users.get(at) {
+        None => &[],
+        Some(known) => known.as_slice(),
+    }
+}
+
+// Lets the first free block run, again and again, and counts for its users one need less. So a need is met once, and no
+// block is looked at in vain.
+fn run_free(alloc: Global, deps: &[List<usize>], ran: &mut Ran) -> Mem<()>
+    requires { are_ready deps.now [] ran.old ≡ true }
+    ensures { OnOk result (are_ready deps.now [] ran.new ≡ true) }
+{
+    let users = users_of(alloc, deps)?;
+    let mut counts = counts_of(alloc, deps)?;
+    let mut free = free_blocks(alloc, deps)?;
+    for _turn in deps {
+        match free.pop_first() {
+            None => return Ok(()),
+            Some(at) => {
+                run_if_ready(deps, ran, at)?;
+                release(
+                    users_at(users.as_slice(), at),
+                    counts.as_mut_slice(),
+                    &mut free,
+                )?;
+            }
+        }
+    }
+    Ok(())
 }
 
 // The first block that hasn't run and needs none that hasn't.
-fn first_ready(deps: &[List<usize>], ran: &[usize]) -> Option<usize>
+fn first_ready(deps: &[List<usize>], ran: &Ran) -> Option<usize>
     ensures { result ≡ first_ready ran.now 0 deps.now }
 {
     for (at, needs) in deps.iter().enumerate() {
-        if !is_place_in(ran, at) && are_places_in(ran, needs.as_slice()) {
+        if !ran.has(at) && have_run(ran, needs.as_slice()) {
             return Some(at);
         }
     }
     None
 }
 
-// The places of the blocks in the order in which they run.
-fn run_order(alloc: Global, deps: &[List<usize>]) -> Mem<Vec<usize>>
-    ensures { IfOk result (λ order. order.items ≡ run_order deps.now) }
+// Lets blocks run as long as one is ready.
+fn run_rest(deps: &[List<usize>], ran: &mut Ran) -> Mem<()>
+    ensures { OnOk result (ran.new ≡ run_more deps.now deps.now ran.old) }
 {
-    let mut ran = Vec::new(alloc);
     for _turn in deps {
-        match first_ready(deps, ran.as_slice()) {
-            None => return Ok(ran),
+        match first_ready(deps, ran) {
+            None => return Ok(()),
             Some(at) => ran.push(at)?,
         }
     }
+    Ok(())
+}
+
+// The blocks that can run, each behind those that it needs.
+fn run_blocks(alloc: Global, deps: &[List<usize>]) -> Mem<Ran>
+    ensures ready { IfOk result (λ ran. are_ready deps.now [] ran ≡ true) }
+    ensures same { IfOk result (λ ran. (at : ℕ) → is_place_in ran at ≡ is_place_in (run_order deps.now) at) }
+{
+    let mut ran = Ran::none(alloc);
+    run_free(alloc, deps, &mut ran)?;
+    run_rest(deps, &mut ran)?;
     Ok(ran)
 }
 
-// The blocks that define the variables that a block uses.
-fn needs_of(alloc: Global, blocks: &[BlockNames<'_>], used: &[&str]) -> Mem<List<usize>>
-    ensures { IfOk result (λ needs. needs ≡ flat_map (definers blocks.now) (map (λ name. name.now) used.now)) }
+// Whether all of so many blocks have run.
+fn have_all_run(ran: &Ran, count: usize) -> bool
+    ensures { IsTrue result ↔ ((at : ℕ) → at < count → is_place_in ran.now at ≡ true) }
 {
-    let mut needs = Vec::new(alloc);
-    for name in used {
-        let mut found = definers(alloc, blocks, name)?;
-        needs.append(&mut found)?;
+    for at in 0..count {
+        if !ran.has(at) {
+            return false;
+        }
     }
-    Ok(List::from_vec(needs))
+    true
 }
 
-// For each block the places of those whose variables it uses.
-fn dependencies(alloc: Global, blocks: &[BlockNames<'_>]) -> Mem<Vec<List<usize>>>
-    ensures { IfOk result (λ deps. deps.items ≡ dependencies blocks.now) }
+/// Whether all blocks can run, so that none waits for itself.
+pub fn can_all_run(alloc: Global, blocks: &[BlockNames<'_>]) -> Mem<bool>
+    ensures { IfOk result (λ all. IsTrue all ↔ ((at : ℕ) → at < length blocks.now → is_place_in (run_order (dependencies blocks.now)) at ≡ true)) }
 {
-    let mut deps = Vec::new(alloc);
-    for block in blocks {
-        deps.push(needs_of(alloc, blocks, block.used.as_slice())?)?;
-    }
-    Ok(deps)
+    let deps = dependencies(alloc, blocks)?;
+    let ran = run_blocks(alloc, deps.as_slice())?;
+    Ok(have_all_run(&ran, blocks.len()))
 }
 
-/// The places of a query's blocks in the order in which they run: again and again the first block of the text whose
-/// variables are known. The error is want of memory.
-#[tactic(auto, using(crate::proofs::OrderLaws::run_order_is_ordered))]
+/// The places of a query's blocks in an order in which they can run: each is a block that hasn't run, and comes after those
+/// whose variables it uses. A block that waits for itself isn't there, nor is one that waits for such a block. The error is
+/// want of memory.
+#[tactic(auto, using(crate::proofs::OrderLaws::ready_is_ordered))]
 pub fn order_of(alloc: Global, query: &Query) -> Mem<Vec<usize>>
-    ensures is { IfOk result (λ order. order.items ≡ order_of query.now) }
+    ensures ready { IfOk result (λ order. are_ready (dependencies (names_of_blocks query.now.blocks)) [] order.items ≡ true) }
     ensures ordered { IfOk result (λ order. is_ordered (dependencies (names_of_blocks query.now.blocks)) [] order.items ≡ true) }
+    ensures same { IfOk result (λ order. (at : ℕ) → is_place_in order.items at ≡ is_place_in (order_of query.now) at) }
 {
     let blocks = names_of_blocks(alloc, query.blocks.as_slice())?;
     let deps = dependencies(alloc, blocks.as_slice())?;
-    run_order(alloc, deps.as_slice())
+    Ok(run_blocks(alloc, deps.as_slice())?.into_order())
 }

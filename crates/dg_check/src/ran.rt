@@ -1,0 +1,69 @@
+// The blocks that have run, in their order, and the same places in a set.
+ghost use Rattle.std.specs.Prelude.{◌≡◌, [], ◌∷◌, ◌++◌, OnOk};
+ghost use Rattle.dg_check.specs.Cycles.{is_place_in};
+
+use dg_values::{Mem, OutOfMemory};
+use std::alloc::Global;
+use std::collections::BTreeSet;
+use std::marker::Model;
+
+/// The places of the blocks that have run. Contracts see them in their order.
+#[derive(Drop)]
+pub struct Ran {
+    order: Vec<usize>,
+    places: BTreeSet<usize>,
+}
+
+impl Model for Ran {
+    ghost use Rattle.std.specs.Prelude.{◌≡◌, List, ℕ};
+    ghost use Rattle.std.specs.BTreeSet.{contains};
+    ghost use Rattle.std.specs.Ordering.{nat_cmp};
+    ghost use Rattle.dg_check.specs.Cycles.{is_place_in};
+
+    ghost Value = { List ℕ };
+
+    ghost view = { λ ran. ran.order.items };
+
+    ghost invariant = { λ ran. (at : ℕ) → contains nat_cmp ran.places at ≡ is_place_in ran.order.items at };
+}
+
+impl Ran {
+    /// No block.
+    pub fn none(alloc: Global) -> Ran
+        ensures { result ≡ [] }
+    {
+        Ran {
+            order: Vec::new(alloc),
+            places: BTreeSet::new(alloc),
+        }
+    }
+
+    /// Whether a block has run. It looks by halves.
+    pub fn has(&self, at: usize) -> bool
+        ensures { result ≡ is_place_in self.now at }
+    {
+        self.places.contains(&at)
+    }
+
+    /// One block more has run. Where there is no memory the blocks stay as they are.
+    pub fn push(&mut self, at: usize) -> Mem<()>
+        ensures { OnOk result (self.new ≡ self.old ++ at ∷ []) }
+    {
+        self.order.push(at)?;
+        match self.places.insert(at) {
+            Ok(_) => Ok(()),
+            Err(_) => {
+                self.order.pop();
+                Err(OutOfMemory)
+            }
+        }
+    }
+
+    /// The places, in the order in which the blocks ran.
+    pub fn into_order(self) -> Vec<usize>
+        ensures { result.items ≡ self }
+    {
+        let Ran { order, .. } = self;
+        order
+    }
+}
