@@ -1,5 +1,5 @@
 -- Faults of queries, and the order in which blocks run, by computing.
-use Rattle.std.specs.Prelude.{◌≡◌, ℕ, pos, negsuc, List, [], ◌∷◌, ◌++◌, Bool, true, false, codes, refl, Option, Some, None, map, flat_map}
+use Rattle.std.specs.Prelude.{◌≡◌, ℕ, pos, negsuc, List, [], ◌∷◌, ◌++◌, true, false, codes, refl, Option, Some, None, map, flat_map}
 use Rattle.dg_values.specs.declared.kind.Kind.{Kind}
 use Rattle.dg_values.specs.declared.kind.Kind.TheVariants as kinds
 use Rattle.dg_values.specs.declared.kind.Tokenizer.{Tokenizer}

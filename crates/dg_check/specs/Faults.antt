@@ -1,5 +1,5 @@
 -- What is wrong with a query: the first check that finds a fault decides, and finds it at its first place in the text.
-use Rattle.std.specs.Prelude.{ℕ, ℤ, pos, negsuc, List, [], ◌∷◌, ◌++◌, Bool, true, false, not, ◌&&◌, ◌||◌, if◌then◌else◌, Option, Some, None, is_some, option_map, codes, int_lt, Result, Ok, Err, map, flat_map}
+use Rattle.std.specs.Prelude.{ℕ, ℤ, pos, List, [], ◌∷◌, ◌++◌, Bool, true, false, not, ◌&&◌, ◌||◌, if◌then◌else◌, Option, Some, None, is_some, option_map, codes, int_lt, Result, Ok, Err, map}
 use Rattle.std.specs.Option.{option_or}
 use Rattle.std.specs.List.{list_any, list_all}
 use Rattle.dg_values.specs.declared.kind.Kind.{Kind}

@@ -1,12 +1,10 @@
 -- Which variables a query defines and uses, and what they have.
-use Rattle.std.specs.Prelude.{ℕ, List, [], ◌∷◌, ◌++◌, Bool, true, false, ◌&&◌, not, Option, Some, None, map, flat_map, filter, find, option_map}
-use Rattle.std.specs.List.{list_any}
+use Rattle.std.specs.Prelude.{ℕ, List, [], ◌∷◌, ◌++◌, Bool, true, false, Option, Some, None, map, flat_map, filter, find, option_map}
 use Rattle.dg_values.specs.declared.kind.Kind.{Kind}
 use Rattle.dg_values.specs.declared.kind.Kind.TheVariants as kinds
 use Rattle.dg_values.specs.Order.{same_text}
 use Rattle.dg_schema.specs.declared.definition.PredDef.{PredDef}
 use Rattle.dg_schema.specs.Definitions.{definition_of}
-use Rattle.dg_nquad.specs.declared.mutation.Mutation.{Mutation}
 use Rattle.dg_nquad.specs.declared.mutation.Node.{Node}
 use Rattle.dg_nquad.specs.declared.mutation.Node.TheVariants as nodes
 use Rattle.dg_nquad.specs.declared.mutation.Object.{Object}
@@ -14,7 +12,6 @@ use Rattle.dg_nquad.specs.declared.mutation.Object.TheVariants as objects
 use Rattle.dg_nquad.specs.declared.mutation.Statement.{Statement}
 use Rattle.dg_parse.specs.declared.query.QArg.{QArg}
 use Rattle.dg_parse.specs.declared.query.QArg.TheVariants as args
-use Rattle.dg_parse.specs.declared.query.QEdge.{QEdge}
 use Rattle.dg_parse.specs.declared.query.QFunc.{QFunc}
 use Rattle.dg_parse.specs.declared.query.QFunc.TheVariants as funcs
 use Rattle.dg_parse.specs.declared.query.QOf.{QOf}

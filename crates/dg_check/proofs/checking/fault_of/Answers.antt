@@ -1,11 +1,10 @@
-use Rattle.std.proofs.Common.{◌≡◌, ◌++◌, IfOk, sym, ap, ◌∙◌, subst}
-use Rattle.std.specs.Prelude.{Option, Some, None}
-use Rattle.std.specs.Option.{option_or}
+use Rattle.std.proofs.Common.{◌≡◌, IfOk, ap, ◌∙◌, subst}
+use Rattle.std.specs.Prelude.{Option}
 use Rattle.dg_check.specs.declared.fault.CheckFault.{CheckFault}
 use Rattle.dg_check.specs.Places.{places_met, places_of_query}
-use Rattle.dg_check.specs.Variables.{definitions_in, definitions_met, uses_met, uses_in, uses_of_mutations}
+use Rattle.dg_check.specs.Variables.{uses_met, uses_in}
 use Rattle.dg_check.specs.Blocks.{names_of_blocks}
-use Rattle.dg_check.specs.Faults.{fault_of_variables, fault_behind, cycle, fault_among}
+use Rattle.dg_check.specs.Faults.{fault_among}
 use Rattle.dg_check.proofs.checking.fault_of.Goals as goal
 
 pub returns : goal.returns
