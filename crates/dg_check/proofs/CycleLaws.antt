@@ -1,6 +1,6 @@
 -- Where all blocks can run, no variable is circular: along a use the place in the order falls.
 use Rattle.std.proofs.Common.{◌≡◌, ℕ, zero, suc, ◌+◌, ◌<◌, ◌≤◌, length, Bool, true, false, cond, List, [], ◌∷◌, ◌++◌, refl, sym, ap, ◌∙◌, subst, eq-eqb, arith}
-use Rattle.std.specs.Prelude.{Option, Some, None, ◌&&◌, ◌||◌, ◌==◌, slice_get, map, flat_map, find, option_map, IsTrue, ◌↔◌}
+use Rattle.std.specs.Prelude.{Option, Some, None, ◌||◌, ◌==◌, slice_get, map, flat_map, find, option_map, IsTrue, ◌↔◌}
 use Rattle.std.specs.List.{list_all, list_any}
 use Rattle.std.proofs.lemmas.List.Folds.{list_any-append}
 use Rattle.std.proofs.lemmas.Map.Views.{exact_unsigned_eq}

@@ -13,7 +13,7 @@ use Rattle.std.proofs.lemmas.List.Folds.{list_any-append}
 use Rattle.std.proofs.lemmas.Map.Text.{btree_map_updates_str, is_eq-slice_cmp}
 use Rattle.dg_values.specs.Order.{text_cmp, same_text}
 use Rattle.dg_sets.proofs.MadeOrders.{text_order}
-use Rattle.dg_sets.proofs.Sets.{is_one, is_itself, eq_turn}
+use Rattle.dg_sets.proofs.Sets.{is_one, eq_turn}
 use Rattle.dg_check.specs.declared.blocks.BlockNames.{BlockNames}
 use Rattle.dg_check.specs.Names.{is_name_in}
 use Rattle.dg_check.specs.Cycles.{definers_from, definers}

@@ -1,4 +1,3 @@
-use Rattle.std.proofs.Common.{◌≡◌}
 use Rattle.dg_check.proofs.CycleLaws.{no_cycle}
 use Rattle.dg_check.proofs.cycles.cycle.Goals as goal
 

@@ -1,4 +1,4 @@
-use Rattle.std.proofs.Common.{◌≡◌, arith}
+use Rattle.std.proofs.Common.{arith}
 use Rattle.std.proofs.lemmas.Grind.{common_steps}
 use Rattle.dg_check.specs.RunOrder.{blocks_under}
 use Rattle.dg_check.proofs.NeedLaws.{block_more}

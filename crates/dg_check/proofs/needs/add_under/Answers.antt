@@ -1,4 +1,4 @@
-use Rattle.std.proofs.Common.{◌≡◌, ◌++◌, [], ◌∷◌, ap, ◌∙◌}
+use Rattle.std.proofs.Common.{◌++◌, [], ◌∷◌, ap, ◌∙◌}
 use Rattle.dg_check.proofs.NeedLaws.{under_more}
 use Rattle.dg_check.proofs.needs.add_under.Goals as goal
 

@@ -1,4 +1,4 @@
-use Rattle.std.proofs.Common.{◌≡◌, [], sym, ap, ◌∙◌}
+use Rattle.std.proofs.Common.{[], ap, ◌∙◌}
 use Rattle.dg_check.specs.Cycles.{is_place_in}
 use Rattle.dg_check.specs.RunOrder.{are_ready}
 use Rattle.dg_check.proofs.OrderLaws.{ready_from, same_blocks}

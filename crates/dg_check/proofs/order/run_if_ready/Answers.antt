@@ -1,4 +1,4 @@
-use Rattle.std.proofs.Common.{◌≡◌, sym, ◌∙◌}
+use Rattle.std.proofs.Common.{sym, ◌∙◌}
 use Rattle.dg_check.proofs.OrderLaws.{pushed_ready}
 use Rattle.dg_check.proofs.order.run_if_ready.Goals as goal
 
