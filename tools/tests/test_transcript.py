@@ -60,10 +60,10 @@ class Transcripts(InFolder):
         self.assertIn("begin 1 ''\n", said)
 
     def test_a_command_that_doesnt_end(self) -> None:
-        with mock.patch.object(check_transcript, "SECONDS", 0.3):
+        with mock.patch.object(check_transcript, "SECONDS", 4):
             holds, said = self.check("$ echo so far; sleep 100\n")
         self.assertFalse(holds)
-        self.assertIn("a command hadn't ended after 0.3 seconds; the last that it showed: so far", said)
+        self.assertIn("a command hadn't ended after 4 seconds; the last that it showed: so far", said)
 
     def test_files_that_commands_make_are_in_a_folder_of_their_own(self) -> None:
         holds, said = self.check("$ echo a >made.txt; cat made.txt\na\n$ cat made.txt\na\n")
