@@ -23,7 +23,7 @@ abbrev rank : List ℕ → ℕ → ℕ
 rank [] at = 0
 rank (y ∷ ys) at = cond (y == at) 0 (1 + rank ys at)
 
-all_has : (p : ℕ → Bool) (xs : List ℕ) (at : ℕ) → list_all p xs ≡ true → is_place_in xs at ≡ true → p at ≡ true
+pub all_has : (p : ℕ → Bool) (xs : List ℕ) (at : ℕ) → list_all p xs ≡ true → is_place_in xs at ≡ true → p at ≡ true
 all_has p [] at e f = absurd (cc)
 all_has p (x ∷ xs) at e f = by (x == at) refl f (all_has p xs at (right_of (p x) (list_all p xs) e))
   where
@@ -111,13 +111,13 @@ definers_has x k (own ∷ more) (suc i) block e f =
     by true g = ap (λ a. (k == k + suc i) || a) g ∙ right_true (k == k + suc i)
     by false g = g
 
-deps_of : (f : BlockNames → List ℕ) (bs : List BlockNames) (u : ℕ) (user : BlockNames) → slice_get bs u ≡ Some user → deps_at (map f bs) u ≡ f user
+pub deps_of : (f : BlockNames → List ℕ) (bs : List BlockNames) (u : ℕ) (user : BlockNames) → slice_get bs u ≡ Some user → deps_at (map f bs) u ≡ f user
 deps_of f [] u user e = absurd (cc)
 deps_of f (own ∷ more) zero user e = let same : own ≡ user = cc in ap f same
 deps_of f (own ∷ more) (suc u) user e = deps_of f more u user e
 
 -- the blocks that a block uses, and all that define a name that it uses
-use_needed : (blocks : List BlockNames) (u b : ℕ) (block : BlockNames) → slice_get blocks b ≡ Some block → uses_at blocks u block ≡ true → (is_place_in (deps_at (dependencies blocks) u) b ≡ true) × (u < length blocks)
+pub use_needed : (blocks : List BlockNames) (u b : ℕ) (block : BlockNames) → slice_get blocks b ≡ Some block → uses_at blocks u block ≡ true → (is_place_in (deps_at (dependencies blocks) u) b ≡ true) × (u < length blocks)
 use_needed blocks u b block found e = by (slice_get blocks u) refl e
   where
     by : (o : Option BlockNames) → slice_get blocks u ≡ o → elim o [ None ↦ false | Some user ↦ uses_of user block ] ≡ true → (is_place_in (deps_at (dependencies blocks) u) b ≡ true) × (u < length blocks)
@@ -128,7 +128,7 @@ use_needed blocks u b block found e = by (slice_get blocks u) refl e
       slice_get_within blocks u user f,
     )
 
-name_needed : (blocks : List BlockNames) (x : List ℕ) (u d : ℕ) → uses_name_at blocks x u ≡ true → is_place_in (definers blocks x) d ≡ true → (is_place_in (deps_at (dependencies blocks) u) d ≡ true) × (u < length blocks)
+pub name_needed : (blocks : List BlockNames) (x : List ℕ) (u d : ℕ) → uses_name_at blocks x u ≡ true → is_place_in (definers blocks x) d ≡ true → (is_place_in (deps_at (dependencies blocks) u) d ≡ true) × (u < length blocks)
 name_needed blocks x u d e defined = by (slice_get blocks u) refl e
   where
     by : (o : Option BlockNames) → slice_get blocks u ≡ o → elim o [ None ↦ false | Some user ↦ is_name_in user.used x ] ≡ true → (is_place_in (deps_at (dependencies blocks) u) d ≡ true) × (u < length blocks)
@@ -141,7 +141,7 @@ name_needed blocks x u d e defined = by (slice_get blocks u) refl e
 
 -- ---- what depends stands no later than a definer
 
-any_has : (p : ℕ → Bool) (xs : List ℕ) → list_any p xs ≡ true → (u : ℕ) × (is_place_in xs u ≡ true) × (p u ≡ true)
+pub any_has : (p : ℕ → Bool) (xs : List ℕ) → list_any p xs ≡ true → (u : ℕ) × (is_place_in xs u ≡ true) × (p u ≡ true)
 any_has p [] e = absurd (cc)
 any_has p (x ∷ xs) e = by (p x) refl e (any_has p xs)
   where
@@ -156,7 +156,7 @@ any_has p (x ∷ xs) e = by (p x) refl e (any_has p xs)
     by true f g rest = (x, (λ i. eq-eqb x x refl i || is_place_in xs x), f)
     by false f g rest = later (rest g)
 
-reached_is : (blocks : List BlockNames) (some : List ℕ) (k : ℕ) (bs : List BlockNames) (b : ℕ) → is_place_in (reached_from blocks some k bs) b ≡ true → (i : ℕ) × (block : BlockNames) × (b ≡ k + i) × (slice_get bs i ≡ Some block) × (is_reached blocks some b block ≡ true)
+pub reached_is : (blocks : List BlockNames) (some : List ℕ) (k : ℕ) (bs : List BlockNames) (b : ℕ) → is_place_in (reached_from blocks some k bs) b ≡ true → (i : ℕ) × (block : BlockNames) × (b ≡ k + i) × (slice_get bs i ≡ Some block) × (is_reached blocks some b block ≡ true)
 reached_is blocks some k [] b e = absurd (cc)
 reached_is blocks some k (own ∷ more) b e = by (is_reached blocks some k own) refl e (reached_is blocks some (k + 1) more b)
   where

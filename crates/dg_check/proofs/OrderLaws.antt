@@ -12,7 +12,7 @@ pub right_of : (a b : Bool) → (a && b) ≡ true → b ≡ true
 right_of true b e = e
 right_of false b e = absurd (cc)
 
-both_of : (a b : Bool) → a ≡ true → b ≡ true → (a && b) ≡ true
+pub both_of : (a b : Bool) → a ≡ true → b ≡ true → (a && b) ≡ true
 both_of a b e f = cc
 
 inner : (a b : ℕ) → Some a ≡ Some b → a ≡ b
@@ -110,11 +110,11 @@ pub place_more : (xs : List ℕ) (y at : ℕ) → is_place_in (xs ++ y ∷ []) a
 place_more xs y at = list_any-append (λ place. place == at) xs (y ∷ []) ∙ ap (λ b. is_place_in xs at || b) (or_none (y == at))
 
 -- how many of these blocks, those from a place on, haven't run
-abbrev one_left : Bool → ℕ
+abbrev pub one_left : Bool → ℕ
 one_left true = 0
 one_left false = 1
 
-abbrev left_of : List ℕ → ℕ → List (List ℕ) → ℕ
+abbrev pub left_of : List ℕ → ℕ → List (List ℕ) → ℕ
 left_of ran k [] = 0
 left_of ran k (needs ∷ more) = one_left (is_place_in ran k) + left_of ran (k + 1) more
 
@@ -122,7 +122,7 @@ one_left_most : (b : Bool) → one_left b ≤ 1
 one_left_most true = omega arith
 one_left_most false = omega arith
 
-left_most : (ran : List ℕ) (k : ℕ) (ds : List (List ℕ)) → left_of ran k ds ≤ length ds
+pub left_most : (ran : List ℕ) (k : ℕ) (ds : List (List ℕ)) → left_of ran k ds ≤ length ds
 left_most ran k [] = omega arith
 left_most ran k (needs ∷ more) = let a = one_left_most (is_place_in ran k) in let b = left_most ran (k + 1) more in omega arith
 
@@ -169,7 +169,7 @@ none_left ran k (needs ∷ more) e = by (is_place_in ran k) e (λ g. none_left r
     by true f rest = rest (omega arith)
     by false f rest = absurd (omega arith)
 
-none_ready : (turns deps : List (List ℕ)) (ran : List ℕ) → left_of ran 0 deps ≤ length turns → first_ready (run_more turns deps ran) 0 deps ≡ None
+pub none_ready : (turns deps : List (List ℕ)) (ran : List ℕ) → left_of ran 0 deps ≤ length turns → first_ready (run_more turns deps ran) 0 deps ≡ None
 none_ready [] deps ran e = none_left ran 0 deps (omega arith)
 none_ready (turn ∷ turns) deps ran e = by (first_ready ran 0 deps) refl (λ at h. none_ready turns deps (ran ++ at ∷ []) h)
   where
@@ -179,7 +179,7 @@ none_ready (turn ∷ turns) deps ran e = by (first_ready ran 0 deps) refl (λ at
 
 -- ---- where no block is ready, all that can run have
 
-unready : (ran : List ℕ) (k : ℕ) (ds : List (List ℕ)) (i : ℕ) (needs : List ℕ) → first_ready ran k ds ≡ None → slice_get ds i ≡ Some needs → list_all (is_place_in ran) needs ≡ true → is_place_in ran (k + i) ≡ true
+pub unready : (ran : List ℕ) (k : ℕ) (ds : List (List ℕ)) (i : ℕ) (needs : List ℕ) → first_ready ran k ds ≡ None → slice_get ds i ≡ Some needs → list_all (is_place_in ran) needs ≡ true → is_place_in ran (k + i) ≡ true
 unready ran k [] i needs e found all = absurd (cc)
 unready ran k (own ∷ more) zero needs e found all = subst (λ (p : ℕ). is_place_in ran p ≡ true) (let g : k ≡ k + 0 = omega arith in g) (by (is_place_in ran k) (list_all (is_place_in ran) own) e (ap (list_all (is_place_in ran)) same ∙ all))
   where
@@ -232,7 +232,7 @@ run_within deps before (x ∷ xs) ys none w e at f =
 no_place : (ys : List ℕ) → Within [] ys
 no_place ys at e = absurd (cc)
 
-one_truth : (a b : Bool) → (a ≡ true → b ≡ true) → (b ≡ true → a ≡ true) → a ≡ b
+pub one_truth : (a b : Bool) → (a ≡ true → b ≡ true) → (b ≡ true → a ≡ true) → a ≡ b
 one_truth true b f g = sym (f refl)
 one_truth false true f g = g refl
 one_truth false false f g = refl

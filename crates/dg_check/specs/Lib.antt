@@ -7,3 +7,6 @@ pub mod Cycles
 pub mod RunOrder
 pub mod Faults
 pub mod Patterns
+pub mod Plans
+pub mod Outcomes
+pub mod Search

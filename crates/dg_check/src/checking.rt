@@ -7,8 +7,8 @@ ghost use Rattle.dg_check.specs.Faults.{fault_of_variables, fault_of_pages, faul
 
 use crate::CheckFault;
 use crate::blocks::{BlockNames, names_of_blocks};
-use crate::check::first_found;
 use crate::cycles::cycle;
+use crate::finding::first_found;
 use crate::indexes::Indexed;
 use crate::literals::{Literals, Variables};
 use crate::pages::{Depths, Pages};
@@ -21,8 +21,8 @@ use dg_schema::Schema;
 use dg_values::{Mem, OutOfMemory};
 use std::alloc::Global;
 
-// The first use of a variable that isn't defined, or else the first variable that is defined twice.
-fn fault_of_variables(
+/// The first use of a variable that isn't defined, or else the first variable that is defined twice.
+pub fn fault_of_variables(
     alloc: Global,
     definitions: &[Definition<'_>],
     uses: &[Use<'_>],
@@ -35,8 +35,8 @@ fn fault_of_variables(
     }
 }
 
-// The first argument that can't stand where it does, or else the first depth that isn't 1 to 32.
-fn fault_of_pages(alloc: Global, places: &[Place<'_>]) -> Mem<Option<CheckFault>>
+/// The first argument that can't stand where it does, or else the first depth that isn't 1 to 32.
+pub fn fault_of_pages(alloc: Global, places: &[Place<'_>]) -> Mem<Option<CheckFault>>
     ensures { IfOk result (λ found. found ≡ fault_of_pages (places_met places.now)) }
 {
     match first_found(alloc, &Pages, places)? {
@@ -110,8 +110,8 @@ fn fault_among<'a>(
     }
 }
 
-// The variables that an upsert block uses: its query's, and behind them those of its mutations.
-fn uses_of_upsert<'a>(
+/// The variables that an upsert block uses: its query's, and behind them those of its mutations.
+pub fn uses_of_upsert<'a>(
     alloc: Global,
     places: &[Place<'a>],
     mutations: &'a [UMut],

@@ -1,17 +1,21 @@
-// Which variables are used in a block on which their own block depends: none where all blocks can run, and else by the
-// definition, which looks at all pairs of blocks.
+// Which variables are used in a block on which their own block depends: none where all blocks can run, and else by going
+// from the blocks that define one to all that these lead to.
 ghost use Rattle.std.specs.Prelude.{◌≡◌, IfOk, find, flat_map};
 ghost use Rattle.std.specs.List.{list_any};
 ghost use Rattle.dg_values.specs.Ascending.{ascending};
 ghost use Rattle.dg_values.specs.Order.{text_cmp};
 ghost use Rattle.dg_check.specs.Cycles.{is_place_in, uses_of, uses_at, uses_name_at, is_reached, with_used, definers, depended_on, is_circular, least_circular};
+ghost use Rattle.dg_check.specs.RunOrder.{dependencies};
 ghost use Rattle.dg_check.specs.Faults.{cycle};
 
 use crate::CheckFault;
 use crate::blocks::BlockNames;
+use crate::needs::dependencies;
 use crate::order::can_all_run;
+use crate::ran::Ran;
+use crate::search::{add_led, add_new};
 use dg_sets::in_order;
-use dg_values::{Mem, OutOfMemory, Str};
+use dg_values::{List, Mem, OutOfMemory, Str};
 use std::alloc::Global;
 
 // Whether a block is one of these.
@@ -106,20 +110,45 @@ fn depended_on(alloc: Global, blocks: &[BlockNames<'_>], name: &str) -> Mem<Vec<
     Ok(some)
 }
 
-// Whether a variable is used in a block on which its own depends.
-fn is_circular(alloc: Global, blocks: &[BlockNames<'_>], name: &str) -> Mem<bool>
+// Whether a variable is used in a block on which its own depends, by the definition.
+fn is_circular_by_turns(alloc: Global, blocks: &[BlockNames<'_>], name: &str) -> Mem<bool>
     ensures { IfOk result (λ b. b ≡ is_circular blocks.now name.now) }
 {
     let places = depended_on(alloc, blocks, name)?;
     Ok(any_uses_name(blocks, places.as_slice(), name))
 }
 
+// The same by looking once at each block on which it depends.
+fn is_circular(
+    alloc: Global,
+    blocks: &[BlockNames<'_>],
+    deps: &[List<usize>],
+    name: &str,
+) -> Mem<bool>
+    requires { deps.now ≡ dependencies blocks.now }
+    ensures { IfOk result (λ b. b ≡ is_circular blocks.now name.now) }
+{
+    let mut found = Ran::none(alloc);
+    add_new(&mut found, definers(alloc, blocks, name)?.as_slice())?;
+    let ended = add_led(deps, &mut found)?;
+    if ended {
+        return Ok(any_uses_name(blocks, found.as_slice(), name));
+    }
+    is_circular_by_turns(alloc, blocks, name)
+}
+
 // The first of these names that is circular.
-fn first_circular(alloc: Global, blocks: &[BlockNames<'_>], names: &[Str]) -> Mem<Option<Str>>
+fn first_circular(
+    alloc: Global,
+    blocks: &[BlockNames<'_>],
+    deps: &[List<usize>],
+    names: &[Str],
+) -> Mem<Option<Str>>
+    requires { deps.now ≡ dependencies blocks.now }
     ensures { IfOk result (λ found. found ≡ find (is_circular blocks.now) names.now) }
 {
     for name in names {
-        if is_circular(alloc, blocks, name.as_str())? {
+        if is_circular(alloc, blocks, deps, name.as_str())? {
             return Ok(Some(name.copy(alloc)?));
         }
     }
@@ -141,8 +170,9 @@ fn names_in_order(alloc: Global, blocks: &[BlockNames<'_>]) -> Mem<Vec<Str>>
 fn least_circular(alloc: Global, blocks: &[BlockNames<'_>]) -> Mem<Option<Str>>
     ensures { IfOk result (λ found. found ≡ least_circular blocks.now) }
 {
+    let deps = dependencies(alloc, blocks)?;
     let names = names_in_order(alloc, blocks)?;
-    first_circular(alloc, blocks, names.as_slice())
+    first_circular(alloc, blocks, deps.as_slice(), names.as_slice())
 }
 
 /// The fault of the least circular variable, where there is one. Where all blocks can run there is none.

@@ -4,7 +4,7 @@ ghost use Rattle.std.specs.List.{list_any};
 ghost use Rattle.dg_check.specs.Faults.{is_sortable, serves_index, unindexed, uncounted, irreversible, op_word, op_index, terms_word, unindexed_part, unindexed_root, irreversible_part, irreversible_func};
 
 use crate::CheckFault;
-use crate::check::Check;
+use crate::finding::Check;
 use crate::places::Place;
 use dg_parse::{CmpOp, QEdge, QFunc, QOf};
 use dg_schema::Schema;

@@ -1,12 +1,12 @@
-//! What is wrong with queries, and the order in which their blocks run.
+//! What is wrong with queries, and what is read of those with which nothing is: plans.
 #![tactic(auto)]
 
 mod blocks;
-mod check;
 mod checking;
 mod content;
 mod cycles;
 mod fault;
+mod finding;
 mod indexes;
 mod literals;
 mod names;
@@ -15,7 +15,11 @@ mod order;
 mod pages;
 mod patterns;
 mod places;
+mod plan;
+mod planning;
 mod ran;
+mod reading;
+mod search;
 mod unknown;
 mod uses;
 mod variables;
@@ -25,3 +29,5 @@ pub use content::Content;
 pub use fault::CheckFault;
 pub use order::order_of;
 pub use patterns::{PatternFault, Patterns, Refusal, RegexPatterns};
+pub use plan::{Blocks, Plan, Read};
+pub use planning::{check, check_upsert};

@@ -4,7 +4,7 @@ ghost use Rattle.std.specs.List.{list_all};
 ghost use Rattle.dg_values.specs.Scanning.{value_of_text};
 ghost use Rattle.dg_check.specs.Faults.{read_outcome, reads_as, kind_in, kind_named, kind_of_part, name_of_part, unread, unread_func, is_summed, bad_sum};
 
-use crate::check::Check;
+use crate::finding::Check;
 use crate::names::Names;
 use crate::places::Place;
 use crate::variables::{Definition, all_names};
@@ -139,8 +139,8 @@ fn both_read(alloc: Global, kind: Option<Kind>, low: &Str, high: &Str) -> Mem<bo
     reads_as(alloc, kind, high)
 }
 
-// The predicate or the variable that is compared, for its fault.
-fn name_of_part(alloc: Global, of: &QOf) -> Mem<Str>
+/// The predicate or the variable that is compared, for its fault.
+pub fn name_of_part(alloc: Global, of: &QOf) -> Mem<Str>
     ensures { IfOk result (λ name. name ≡ name_of_part of.now) }
 {
     match of {
@@ -174,8 +174,8 @@ impl Literals<'_> {
         }
     }
 
-    // The kind of what is compared.
-    fn kind_of_part(&self, of: &QOf) -> Option<Kind>
+    /// The kind of what is compared.
+    pub fn kind_of_part(&self, of: &QOf) -> Option<Kind>
         ensures { result ≡ kind_of_part self.now.schema.now self.now.variables of.now }
     {
         match of {
@@ -222,8 +222,8 @@ impl Literals<'_> {
         }
     }
 
-    // The fault of a sum that isn't of whole numbers.
-    fn bad_sum(&self, alloc: Global, op: AggOp, name: &Str) -> Mem<Option<CheckFault>>
+    /// The fault of a sum that isn't of whole numbers.
+    pub fn bad_sum(&self, alloc: Global, op: AggOp, name: &Str) -> Mem<Option<CheckFault>>
         ensures { IfOk result (λ found. found ≡ bad_sum self.now.variables op name.now) }
     {
         match op {

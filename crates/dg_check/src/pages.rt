@@ -4,7 +4,7 @@ ghost use Rattle.std.specs.List.{list_any};
 ghost use Rattle.dg_check.specs.Faults.{is_order, arg_word, is_negative, is_misplaced, is_same_arg, is_wrong, bad_page, depth_in, bad_depth};
 
 use crate::CheckFault;
-use crate::check::Check;
+use crate::finding::Check;
 use crate::places::Place;
 use dg_parse::{QArg, QOpt};
 use dg_values::{Mem, OutOfMemory, Str};

@@ -1,5 +1,5 @@
-// The blocks that have run, in their order, and the same places in a set.
-ghost use Rattle.std.specs.Prelude.{◌≡◌, [], ◌∷◌, ◌++◌, OnOk};
+// Blocks that have run or were found, in their order, and the same places in a set.
+ghost use Rattle.std.specs.Prelude.{◌≡◌, [], ◌∷◌, ◌++◌, OnOk, slice_get};
 ghost use Rattle.dg_check.specs.Cycles.{is_place_in};
 
 use dg_values::{Mem, OutOfMemory};
@@ -7,7 +7,7 @@ use std::alloc::Global;
 use std::collections::BTreeSet;
 use std::marker::Model;
 
-/// The places of the blocks that have run. Contracts see them in their order.
+/// The places of blocks that have run, or that were found. Contracts see them in their order.
 #[derive(Drop)]
 pub struct Ran {
     order: Vec<usize>,
@@ -57,6 +57,20 @@ impl Ran {
                 Err(OutOfMemory)
             }
         }
+    }
+
+    /// The block at a place of the order, where there is one.
+    pub fn get(&self, i: usize) -> Option<usize>
+        ensures { result ≡ slice_get self.now i }
+    {
+        self.order.as_slice().get(i).copied()
+    }
+
+    /// The places, in the order in which the blocks ran.
+    pub fn as_slice(&self) -> &[usize]
+        ensures { result.now ≡ self.now }
+    {
+        self.order.as_slice()
     }
 
     /// The places, in the order in which the blocks ran.

@@ -13,3 +13,4 @@ pub mod ListLaws
 pub mod ExpandLaws
 pub mod NameLaws
 pub mod ResolveLaws
+pub mod Examples

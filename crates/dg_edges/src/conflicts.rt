@@ -60,5 +60,6 @@ pub fn preds_of(alloc: Global, changes: &[Change]) -> Mem<Vec<Str>>
     for change in changes {
         put(&mut found, change.triple().p.copy(alloc)?)?;
     }
+    found.shrink_to_fit();
     Ok(found)
 }

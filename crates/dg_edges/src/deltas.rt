@@ -9,7 +9,7 @@ ghost use Rattle.dg_zero.specs.Listings.{AreGainsAndLosses};
 ghost use Rattle.dg_edges.specs.Deltas.{and_part, parts_at, data_keys, deltas, IsPlain, AreFitting};
 ghost use Rattle.dg_edges.specs.Lists.{Lists};
 
-use crate::between::between;
+use crate::differing::between;
 use crate::lists::{Objects, keys_of, lists_of};
 use dg_delta::Op;
 use dg_graph::{Change, Snapshot};
@@ -36,7 +36,8 @@ fn add_part(alloc: Global, parts: &mut Vec<Part>, key: &Key, ops: Vec<Op>) -> Me
 fn next_part(alloc: Global, parts: &mut Vec<Part>, key: &Key, objects: &Objects) -> Mem<()>
     ensures { IfOk result (λ u. parts.new.items ≡ parts.old.items ++ and_part key.now (changes_between objects.now.before objects.now.after) []) }
 {
-    let ops = between(alloc, objects.before(), objects.after())?;
+    let mut ops = between(alloc, objects.before(), objects.after())?;
+    ops.shrink_to_fit();
     add_part(alloc, parts, key, ops)
 }
 
@@ -49,6 +50,7 @@ fn parts_of(alloc: Global, keys: &[Key], lists: &[Objects]) -> Mem<Vec<Part>>
     for (place, key) in keys.iter().enumerate() {
         next_part(alloc, &mut parts, key, &lists[place])?;
     }
+    parts.shrink_to_fit();
     Ok(parts)
 }
 

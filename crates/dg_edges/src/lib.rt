@@ -2,9 +2,9 @@
 //! lists, and the keys by which they conflict.
 #![tactic(auto)]
 
-mod between;
 mod conflicts;
 mod deltas;
+mod differing;
 mod edge;
 mod expanding;
 mod fault;
@@ -17,10 +17,11 @@ mod resolving;
 
 pub use conflicts::{conflict_keys, preds_of};
 pub use deltas::deltas_of;
+pub use differing::between;
 pub use edge::{Edge, Named, Resolved, Target};
 pub use expanding::expand;
 pub use fault::EdgeFault;
 pub use laws::{changes_as_parts, commits_as_changes, mutations, offers, plain_histories};
-pub use offer::offer_of;
+pub use offer::{copies, offer_of};
 pub use plain::{are_fitting, is_plain};
 pub use resolving::resolve;

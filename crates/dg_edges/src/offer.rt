@@ -55,8 +55,8 @@ fn copy_of(alloc: Global, change: &Change) -> Mem<Change>
     }
 }
 
-// Equal changes, in their order.
-fn copies(alloc: Global, changes: &[Change]) -> Mem<Vec<Change>>
+/// Equal changes, in their order. The error is want of memory.
+pub fn copies(alloc: Global, changes: &[Change]) -> Mem<Vec<Change>>
     ensures { IfOk result (λ copies. copies.items ≡ changes.now) }
 {
     let mut copies = Vec::with_capacity(alloc, changes.len())?;

@@ -2,8 +2,9 @@
 ghost use Rattle.std.specs.Prelude.{◌≡◌, ◌≢◌, ◌<◌, [], true, IfOk};
 ghost use Rattle.dg_values.specs.Ascending.{Ascends};
 ghost use Rattle.dg_keys.specs.Conflicts.{conflict_cmp};
+ghost use Rattle.dg_oracle.specs.Commits.{is_active};
 ghost use Rattle.dg_oracle.specs.Verdicts.{verdict};
-ghost use Rattle.dg_zero.specs.Counters.{active, is_active_of};
+ghost use Rattle.dg_zero.specs.Counters.{active, starts_of, is_active_of};
 ghost use Rattle.dg_zero.specs.Legal.{IsLegal};
 ghost use Rattle.dg_zero.specs.Verdicts.{commits};
 ghost use Rattle.dg_zero.specs.Worlds.{schema};
@@ -165,8 +166,10 @@ fn offer_in<L: Ledger>(alloc: Global, zero: &ZeroState, opened: &Opened, blank: 
     )
 }
 
-// The text of the least key of an offer that was committed since its start, and no text where there is none.
+// The text of the least key of an active transaction's offer that was committed since its start, and no text where there
+// is none.
 fn clash_text(alloc: Global, zero: &ZeroState, offer: &Offer) -> Mem<Str>
+    requires active { is_active (starts_of (active zero.now.history)) offer.now.start ≡ true }
     requires ascend { Ascends conflict_cmp offer.now.keys }
     ensures { IfOk result (λ text. text ≡ clash_text offer.now.keys (verdict conflict_cmp (commits zero.now.history) offer.now.start offer.now.keys)) }
 {

@@ -174,3 +174,23 @@ purged_is o line i le = record {
   commits_drawn = all_above (λ s. s < o.next) (λ c. nat_lt line c.ts) o.commits i.commits_drawn;
   apart = all_among_above (λ c. nat_lt line c.ts) o.commits o.active i.apart;
 }
+
+-- a line that isn't above takes no commit away
+all_stay : {K : Type 0} (line low : ℕ) (cs : List (Commit K)) → line ≤ low → Ascends low (map ts_of cs) → above line cs ≡ cs
+all_stay line low [] le a = refl
+all_stay line low (c ∷ cs) le a = by (nat_lt line c.ts) (let lt : line < c.ts = omega (arith, a.0) in grind (arith, common_steps)) (all_stay line c.ts cs (omega (arith, a.0)) a.1)
+  where
+    by : (b : Bool) → b ≡ true → above line cs ≡ cs → cond b (c ∷ above line cs) (above line cs) ≡ c ∷ cs
+    by true e rest = ap (λ ds. c ∷ ds) rest
+    by false e rest = absurd (cc)
+
+-- where the line isn't below, a purge changes nothing
+pub unpurged : {K : Type 0} (o : OracleState K) (line : ℕ) → IsOracle o → line ≤ o.line → o ≡ purged o line
+unpurged o line i le =
+    let commits : o.commits ≡ above line o.commits = sym (all_stay line o.line o.commits le i.commits_ascend) in
+    let top : o.line ≡ max o.line line = omega arith in
+    λ d. record { next = o.next; active = o.active; commits = commits d; line = top d }
+
+-- where it is below, it rises to the new one
+pub risen : (old line : ℕ) → old < line → max old line ≡ line
+risen old line lt = omega arith

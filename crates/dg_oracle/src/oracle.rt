@@ -175,14 +175,18 @@ impl<K: Ord + Drop> Oracle<K> {
     }
 
     /// Raises the purge line to this one, where it is below, and forgets the commits at or below it, which no active
-    /// transaction can meet: from the line on, verdicts are as before. It takes no memory.
+    /// transaction can meet: from the line on, verdicts are as before. It takes no memory, and no time where the line
+    /// isn't below.
     pub fn purge(&mut self, line: u64)
         requires { line ≤ below_first self.old.active self.old.next }
         ensures purged { self.new ≡ purged self.old line }
         ensures same_verdicts { HasSameVerdicts K.cmp self.new.line self.new.commits self.old.commits }
         ensures valid { IsOracle self.new }
     {
+        if line <= self.line {
+            return;
+        }
         self.commits.drop_up_to(line);
-        self.line = self.line.max(line);
+        self.line = line;
     }
 }

@@ -49,7 +49,7 @@ missing_at schema places name k x le before behind other =
     here d to = let lt : k < length places = rw length-map at to in rw (at k d lt) (other lt)
 
 -- what holds of all holds of what stands at a place
-all_at : {X : Type 0} (P : X → Type 0) (xs : List X) (i : ℕ) (x : X) → AllByRecursion P xs → slice_get xs i ≡ Some x → P x
+pub all_at : {X : Type 0} (P : X → Type 0) (xs : List X) (i : ℕ) (x : X) → AllByRecursion P xs → slice_get xs i ≡ Some x → P x
 all_at P [] i x a e = absurd (cc)
 all_at P (y ∷ ys) zero x a e = let same : y ≡ x = cc in subst P same a.0
 all_at P (y ∷ ys) (suc i) x a e = all_at P ys i x a.1 e

@@ -1,5 +1,5 @@
 -- Definitions with their places by name, and one more.
-use Rattle.std.proofs.Common.{◌≡◌, ℕ, zero, suc, ◌<◌, get_or, take, Bool, true, false, ◌||◌, cond, List, [], ◌∷◌, ◌++◌, Some, length, refl, ap, sym, ◌∙◌, arith, length-append}
+use Rattle.std.proofs.Common.{◌≡◌, ℕ, ◌<◌, Bool, true, false, ◌||◌, cond, List, [], ◌∷◌, ◌++◌, Some, length, refl, ap, sym, ◌∙◌, arith, length-append}
 use Rattle.std.specs.Prelude.{map, is_some}
 use Rattle.std.specs.List.{AllByRecursion}
 use Rattle.std.specs.Ordering.{is_eq, match_ordering}
@@ -10,11 +10,9 @@ use Rattle.std.specs.Map.{lookup}
 use Rattle.dg_values.specs.Order.{text_cmp, same_text}
 use Rattle.dg_values.specs.Ascending.{has, placed, with_one}
 use Rattle.dg_schema.specs.declared.definition.PredDef.{PredDef}
-use Rattle.dg_schema.specs.Definitions.{AreDistinct, is_declared, is_named}
-use Rattle.dg_schema.specs.Joined.{newest, renewed}
+use Rattle.dg_schema.specs.Definitions.{is_declared}
 use Rattle.dg_schema.specs.Places.{name_at, names_at, AreKept}
-use Rattle.dg_schema.proofs.Names.{same_text-equal, same_text-turned, declared_kept}
-use Rattle.dg_schema.proofs.Joining.{newest_keeps}
+use Rattle.dg_schema.proofs.Names.{same_text-equal, same_text-turned}
 use Rattle.dg_schema.proofs.ByName.{no_places, name_last, names_more, indexed_by}
 
 abbrev Entries : Type 0
@@ -103,21 +101,3 @@ kept_with schema entries d k missing =
           (within_put (length all) entries d.name (length schema) longer (further (length schema) (length all) (places_of entries) longer k.indexed.within));
       named = named;
     }
-
--- ---- a front of definitions
-
-other_named : (x : PredDef) (more : List PredDef) (i : ℕ) (d : PredDef) → i < length more → AllByRecursion (λ other. is_named x.name other ≡ false) more → is_named (get_or more i d).name x ≡ false
-other_named x [] i d lt a = absurd (omega arith)
-other_named x (y ∷ more) zero d lt a = same_text-turned x.name y.name ∙ a.0
-other_named x (y ∷ more) (suc i) d lt a = other_named x more i d (omega arith) a.1
-
--- none before a place has its name
-front_missing : (schema : List PredDef) (i : ℕ) (d : PredDef) → i < length schema → AreDistinct schema → is_declared (take i schema) (get_or schema i d).name ≡ false
-front_missing [] i d lt a = absurd (omega arith)
-front_missing (x ∷ schema) zero d lt a = refl
-front_missing (x ∷ schema) (suc i) d lt a = rw (other_named x schema i d (omega arith) a.0) (front_missing schema i d (omega arith) a.1)
-
-pub renewed_missing : (newer older : List PredDef) (i : ℕ) (d : PredDef) → i < length older → AreDistinct older → is_declared (renewed newer (take i older)) (newest newer (get_or older i d)).name ≡ false
-renewed_missing newer older i d lt a =
-    declared_kept (newest newer) (newest_keeps newer) (take i older) (newest newer (get_or older i d)).name
-    ∙ ap (is_declared (take i older)) (newest_keeps newer (get_or older i d)) ∙ front_missing older i d lt a

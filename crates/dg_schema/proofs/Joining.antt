@@ -1,12 +1,12 @@
 -- Definitions that are added to older ones.
 use Rattle.std.proofs.Common.{◌≡◌, ℕ, Bool, true, false, not, cond, List, [], ◌∷◌, ◌++◌, Option, Some, None, refl, ap, sym, ◌∙◌, append_assoc}
-use Rattle.std.specs.Prelude.{is_some, map, fold, filter, option_map, unwrap_or}
+use Rattle.std.specs.Prelude.{is_some, map, filter, option_map, unwrap_or}
 use Rattle.std.specs.List.{AllByRecursion}
 use Rattle.std.specs.Option.{option_or}
 use Rattle.dg_values.specs.Order.{same_text}
 use Rattle.dg_schema.specs.declared.definition.PredDef.{PredDef}
 use Rattle.dg_schema.specs.Definitions.{is_named, AreDistinct, definition_of, is_declared, replaced, with_definition, with_definitions}
-use Rattle.dg_schema.specs.Joined.{newest, renewed, added, with_missing}
+use Rattle.dg_schema.specs.Joined.{newest, renewed, added}
 use Rattle.dg_schema.specs.Laws.{names}
 use Rattle.dg_schema.proofs.Names.{same_text-equal, same_text-turned, found_named, none_found, none_named, definition_of-append, KeepsNames, definition_kept, declared_kept, distinct_kept, distinct_pushed}
 
@@ -179,23 +179,3 @@ names_kept f k (d ∷ schema) = λ i. k d i ∷ names_kept f k schema i
 pub names_joined : (older newer : List PredDef) → AreDistinct newer → names (with_definitions older newer) ≡ names older ++ names (added older newer)
 names_joined older newer a =
     ap names (joined_in_place older newer a) ∙ names_append (renewed newer older) (added older newer) ∙ (λ i. names_kept (newest newer) (newest_keeps newer) older i ++ names (added older newer))
-
--- ---- one by one, those that are missing
-
-missing_joined : (schema newer : List PredDef) → AreDistinct newer → fold with_missing schema newer ≡ schema ++ added schema newer
-missing_joined schema [] a = sym (plain schema)
-  where
-    plain : (schema : List PredDef) → schema ++ [] ≡ schema
-    plain [] = refl
-    plain (d ∷ schema) = λ i. d ∷ plain schema i
-missing_joined schema (d ∷ newer) a = missing_joined (with_missing schema d) newer a.1 ∙ by (is_declared schema d.name)
-  where
-    by : (b : Bool) → cond b schema (schema ++ d ∷ []) ++ added (cond b schema (schema ++ d ∷ [])) newer ≡ schema ++ cond (not b) (d ∷ added schema newer) (added schema newer)
-    by true = refl
-    by false =
-        (λ i. (schema ++ d ∷ []) ++ added_pushed schema newer d a.0 i) ∙ append_assoc schema (d ∷ []) (added schema newer)
-
--- in their places first, and then those that are missing
-pub joined_by_steps : (older newer : List PredDef) → AreDistinct newer → fold with_missing (renewed newer older) newer ≡ with_definitions older newer
-joined_by_steps older newer a =
-    missing_joined (renewed newer older) newer a ∙ (λ i. renewed newer older ++ added_kept (newest newer) (newest_keeps newer) older newer i) ∙ sym (joined_in_place older newer a)

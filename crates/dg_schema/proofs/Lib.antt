@@ -13,3 +13,4 @@ pub mod Writable
 pub mod Listed
 pub mod WholeListed
 pub mod Drafts
+pub mod InPlace

@@ -1,5 +1,5 @@
 -- Two schemas in one: what stays in its place, and what comes behind.
-use Rattle.std.specs.Prelude.{not, if◌then◌else◌, List, [], ◌∷◌, ◌++◌, map, filter, unwrap_or}
+use Rattle.std.specs.Prelude.{not, List, map, filter, unwrap_or}
 use Rattle.dg_schema.specs.declared.definition.PredDef.{PredDef}
 use Rattle.dg_schema.specs.Definitions.{definition_of, is_declared}
 
@@ -14,7 +14,3 @@ renewed newer older = map (newest newer) older
 -- the newer definitions whose names the older schema lacks
 abbrev pub added : List PredDef → List PredDef → List PredDef
 added older newer = filter (λ d. not (is_declared older d.name)) newer
-
--- one definition more, where its name isn't declared
-abbrev pub with_missing : List PredDef → PredDef → List PredDef
-with_missing schema definition = if is_declared schema definition.name then schema else schema ++ definition ∷ []

@@ -1,8 +1,7 @@
 // Definitions while they are read.
-ghost use Rattle.std.specs.Prelude.{◌≡◌, false, fold, [], ◌∷◌, ◌++◌, IfOk, OnOk};
+ghost use Rattle.std.specs.Prelude.{◌≡◌, false, [], ◌∷◌, ◌++◌, IfOk, OnOk};
 ghost use Rattle.std.specs.BTreeMap.{values};
 ghost use Rattle.dg_schema.specs.Definitions.{is_declared};
-ghost use Rattle.dg_schema.specs.Joined.{with_missing};
 ghost use Rattle.dg_schema.specs.Readable.{AreReadable};
 
 use crate::{PredDef, Schema};
@@ -61,18 +60,6 @@ impl Draft {
         let place = self.definitions.len();
         self.places.insert(name, place)?;
         self.definitions.push_reserved(definition);
-        Ok(())
-    }
-
-    /// Adds those definitions whose names aren't declared.
-    pub fn add_missing(&mut self, definitions: &[PredDef]) -> Mem<()>
-        ensures ok { OnOk result (self.new ≡ fold with_missing self.old definitions.now) }
-    {
-        for definition in definitions {
-            if !self.declares(&definition.name) {
-                self.add(definition.copy(self.alloc)?)?;
-            }
-        }
         Ok(())
     }
 

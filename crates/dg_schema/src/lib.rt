@@ -8,6 +8,7 @@ mod fault;
 mod grammar;
 mod laws;
 mod places;
+mod placing;
 mod printing;
 mod reading;
 mod schema;

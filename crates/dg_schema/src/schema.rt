@@ -1,15 +1,13 @@
 // Definitions with distinct names, each of which can be written.
-ghost use Rattle.std.specs.Prelude.{◌≡◌, false, fold, [], ◌∷◌, ◌++◌, IfOk, OnOk, Ok, option_copied, string_bytes};
+ghost use Rattle.std.specs.Prelude.{◌≡◌, [], IfOk, OnOk, OnErr, Ok, option_copied, string_bytes};
 ghost use Rattle.dg_schema.specs.Definitions.{definition_of, with_definitions, AreDistinct};
-ghost use Rattle.dg_schema.specs.Joined.{newest, renewed};
 ghost use Rattle.dg_schema.specs.Readable.{AreReadable, IsSchema};
 ghost use Rattle.dg_schema.specs.Texts.{by_name, schema_text};
 ghost use Rattle.dg_schema.specs.Whole.{schema};
 
-use crate::draft::Draft;
-use crate::{PredDef, places, printing};
+use crate::{PredDef, places, placing, printing};
 use dg_values::{Mem, OutOfMemory};
-use std::alloc::Global;
+use std::alloc::{AllocError, Global};
 use std::marker::Model;
 
 /// Definitions with distinct names, each of which can be written in the schema language. Contracts see them in the order in
@@ -34,23 +32,16 @@ impl Model for Schema {
     ghost invariant = { λ s. IsSchema s.definitions.items s.by_name.items };
 }
 
-// The newer definition of the same name, or else the older one.
-fn newest<'a>(newer: &'a Schema, older: &'a PredDef) -> &'a PredDef
-    ensures { result.now ≡ newest newer.now older.now }
-{
-    newer.lookup(older.name.as_str()).unwrap_or(older)
-}
+/// An equal schema.
+impl Clone for Schema {
+    ghost is_clone = { λ schema copy. copy ≡ schema };
 
-// Copies of the older definitions, each with its newer namesake in its place.
-fn renewed(alloc: Global, newer: &Schema, older: &[PredDef]) -> Mem<Draft>
-    requires { AreDistinct older.now }
-    ensures { IfOk result (λ draft. draft ≡ renewed newer.now older.now) }
-{
-    let mut draft = Draft::new(alloc);
-    for definition in older {
-        draft.add(newest(newer, definition).copy(alloc)?)?;
+    fn clone(&self) -> Result<Schema, AllocError> {
+        match self.copy() {
+            Ok(copy) => Ok(copy),
+            Err(_) => Err(AllocError),
+        }
     }
-    Ok(draft)
 }
 
 // Copies of definitions.
@@ -121,9 +112,22 @@ impl Schema {
     pub fn with(&self, newer: &Schema) -> Mem<Schema>
         ensures { IfOk result (λ schema. schema ≡ with_definitions self.now newer.now) }
     {
-        let mut draft = renewed(self.alloc, newer, self.definitions())?;
-        draft.add_missing(newer.definitions())?;
-        draft.into_schema()
+        let mut schema = self.copy()?;
+        schema.join(newer)?;
+        Ok(schema)
+    }
+
+    /// Adds each newer definition, or puts it in its namesake's place. It copies the newer ones alone. After an error
+    /// nothing has changed.
+    pub fn join(&mut self, newer: &Schema) -> Mem<()>
+        ensures ok { OnOk result (self.new ≡ with_definitions self.old newer.now) }
+        ensures err { OnErr result (self.new ≡ self.old) }
+    {
+        let more = copies(self.alloc, newer.definitions())?;
+        self.definitions.reserve(more.len())?;
+        self.by_name.reserve(more.len())?;
+        placing::put_all(&mut self.definitions, &mut self.by_name, more);
+        Ok(())
     }
 
     /// One line for each definition, in ascending order of the names, as the schema language has it. It reads back as

@@ -52,13 +52,13 @@ drawn_refused old new author offer draws.OutOfMemory none f e = (refl, e)
 drawn_refused old new author offer (draws.TimestampsSpent spent) none f e = (none, f.0, f.1, refl, e)
 
 -- an active start ends
-pub ended : (n : ℕ) (o : oracle.OracleState ConflictKey) (uid : ℕ) (d : List PredDef) (ps : List Place) (w : List Tablet) (h now : List Entry) → h ≡ now → (author start : ℕ) → IsKept n o uid d ps w h → oracle.is_active o.active start ≡ true → (oracle.is_active (starts_of (active now)) start ≡ true → is_active_of (active now) start author ≡ true) → IsKept n (oracle.ended o start) uid d ps w (and_entry h author (End start))
+pub ended : {cs : List ℕ} (n : ℕ) (o : oracle.OracleState ConflictKey) (uid : ℕ) (d : List PredDef) (ps : List Place) (w : List Tablet) (h now : List Entry) → h ≡ now → (author start : ℕ) → IsKept n o uid d ps w h cs → oracle.is_active o.active start ≡ true → (oracle.is_active (starts_of (active now)) start ≡ true → is_active_of (active now) start author ≡ true) → IsKept n (oracle.ended o start) uid d ps w (and_entry h author (End start)) cs
 ended n o uid d ps w h now view author start k known own =
     let before : oracle.is_active (starts_of (active h)) start ≡ true = subst (λ (xs : List ℕ). oracle.is_active xs start ≡ true) k.active_are known in
     let here : oracle.is_active (starts_of (active now)) start ≡ true = subst (λ (x : List Entry). oracle.is_active (starts_of (active x)) start ≡ true) view before in
     end_keeps n o uid d ps w h author k start (subst (λ (x : List Entry). is_active_of (active x) start author ≡ true) (sym view) (own here))
 
-module _ (n : ℕ) (o : oracle.OracleState ConflictKey) (uid : ℕ) (d : List PredDef) (ps : List Place) (w : List Tablet) (h now : List Entry) (view : h ≡ now) (author : ℕ) (offer : Offer) (k : IsKept n o uid d ps w h) (mine : is_active_of (active now) offer.start author ≡ true) where
+module _ {cs : List ℕ} (n : ℕ) (o : oracle.OracleState ConflictKey) (uid : ℕ) (d : List PredDef) (ps : List Place) (w : List Tablet) (h now : List Entry) (view : h ≡ now) (author : ℕ) (offer : Offer) (k : IsKept n o uid d ps w h cs) (mine : is_active_of (active now) offer.start author ≡ true) where
   mine_before : is_active_of (active h) offer.start author ≡ true
   mine_before = subst (λ (x : List Entry). is_active_of (active x) offer.start author ≡ true) (sym view) mine
 
@@ -79,7 +79,7 @@ module _ (n : ℕ) (o : oracle.OracleState ConflictKey) (uid : ℕ) (d : List Pr
   place at ts j = let n = named conflict_cmp (commits h) offer.start offer.keys at ts (over_history at ts j) in some_in offer.keys at n.key n.at
 
   -- refused for a key, of which there are two copies
-  pub refused : (at ts : ℕ) (key kept : ConflictKey) (past : List Entry) → judged.verdict conflict_cmp (commits now) offer.start offer.keys ≡ verdicts.Conflict at ts → key ≡ get_or offer.keys at key → kept ≡ get_or offer.keys at kept → past ≡ and_entry h author (Refused offer.start (Conflict kept ts)) → IsKept n (oracle.ended o offer.start) uid d ps w past × (verdict now offer.start offer.preds offer.keys ≡ Some (Conflict key ts)) × (past ≡ and_entry now author (Refused offer.start (Conflict key ts)))
+  pub refused : (at ts : ℕ) (key kept : ConflictKey) (past : List Entry) → judged.verdict conflict_cmp (commits now) offer.start offer.keys ≡ verdicts.Conflict at ts → key ≡ get_or offer.keys at key → kept ≡ get_or offer.keys at kept → past ≡ and_entry h author (Refused offer.start (Conflict kept ts)) → IsKept n (oracle.ended o offer.start) uid d ps w past cs × (verdict now offer.start offer.preds offer.keys ≡ Some (Conflict key ts)) × (past ≡ and_entry now author (Refused offer.start (Conflict key ts)))
   refused at ts key kept past j r1 r2 p =
       let jh = over_history at ts j in
       let lt = place at ts j in
@@ -98,6 +98,6 @@ module _ (n : ℕ) (o : oracle.OracleState ConflictKey) (uid : ℕ) (d : List Pr
   clear j = subst (λ (x : List Entry). verdict x offer.start offer.preds offer.keys ≡ None) view (clear_before j)
 
   -- committed
-  pub committed : (past : List Entry) → judged.verdict conflict_cmp (commits now) offer.start offer.keys ≡ verdicts.Clear → o.next < 2 ^ 62 → IsSound (schema_at now offer.start) (graph_at now offer.start []) offer.preds offer.keys offer.parts → IsMadeOf (schema_at now offer.start) (graph_at now offer.start []) offer.changes offer.keys offer.parts → past ≡ and_entry h author (commit_of offer o.next) → IsKept n (oracle.committed o offer.start offer.keys) uid d ps w past
+  pub committed : (past : List Entry) → judged.verdict conflict_cmp (commits now) offer.start offer.keys ≡ verdicts.Clear → o.next < 2 ^ 62 → IsSound (schema_at now offer.start) (graph_at now offer.start []) offer.preds offer.keys offer.parts → IsMadeOf (schema_at now offer.start) (graph_at now offer.start []) offer.changes offer.keys offer.parts → past ≡ and_entry h author (commit_of offer o.next) → IsKept n (oracle.committed o offer.start offer.keys) uid d ps w past cs
   committed past j lt sound made_of p =
       rw p (commit_keeps n o uid d ps w h author k offer lt mine_before (clear_before j) (subst (λ (x : List Entry). IsSound (schema_at x offer.start) (graph_at x offer.start []) offer.preds offer.keys offer.parts) (sym view) sound) (subst (λ (x : List Entry). IsMadeOf (schema_at x offer.start) (graph_at x offer.start []) offer.changes offer.keys offer.parts) (sym view) made_of))

@@ -1,6 +1,6 @@
 -- The predicates that have tablets are those that are declared, so new tablets are of predicates that were declared at no
 -- timestamp.
-use Rattle.std.proofs.Common.{◌≡◌, ◌∙◌, sym, ap, subst, refl, ℕ, List, [], ◌∷◌, ◌++◌, Bool, true, false, cond, map, append_assoc}
+use Rattle.std.proofs.Common.{◌≡◌, ◌∙◌, sym, ap, subst, refl, ℕ, zero, suc, ◌<◌, length, get_or, take, arith, List, [], ◌∷◌, ◌++◌, Bool, true, false, cond, map, append_assoc}
 use Rattle.std.specs.Prelude.{◌||◌, nat_le, Option, Some, None, is_some}
 use Rattle.std.specs.List.{AllByRecursion, list_any}
 use Rattle.std.proofs.lemmas.Bool.{both_ways}
@@ -8,9 +8,9 @@ use Rattle.std.proofs.lemmas.List.Folds.{list_any-append}
 use Rattle.dg_values.specs.Order.{same_text}
 use Rattle.dg_sets.proofs.Sets.{all_with}
 use Rattle.dg_schema.specs.declared.definition.PredDef.{PredDef}
-use Rattle.dg_schema.specs.Definitions.{definition_of, is_declared, is_named, with_definition, with_definitions}
+use Rattle.dg_schema.specs.Definitions.{AreDistinct, definition_of, is_declared, is_named, with_definition, with_definitions}
 use Rattle.dg_schema.proofs.Joining.{definition_with}
-use Rattle.dg_schema.proofs.Names.{same_text-equal}
+use Rattle.dg_schema.proofs.Names.{same_text-equal, same_text-turned}
 use Rattle.dg_keys.specs.declared.record.Tablet.{Tablet}
 use Rattle.dg_zero.specs.declared.entry.Entry.{Entry}
 use Rattle.dg_zero.specs.declared.entry.Event.{Event}
@@ -186,3 +186,27 @@ pub alters_are_exact : AltersAreExact
 alters_are_exact n h author start newer written l f =
     subst (λ (ts : List Tablet). AllByRecursion (λ t. (at : ℕ) → definition_of (schema_at h at) t.pred ≡ None) ts) (sym f.1.fresh_are)
     (all_with (λ t. list_any (is_place_of t.pred) (tablets h) ≡ false) (λ t. (at : ℕ) → definition_of (schema_at h at) t.pred ≡ None) (fresh n (tablets h) newer) (λ t e. nowhere n h l t e) (fresh_new n (tablets h) newer))
+
+-- ---- while tablets are made
+
+-- no definition before a place has the name of the one there
+front_other : (newer : List PredDef) (i : ℕ) (d : PredDef) → AreDistinct newer → i < length newer → get_or newer i d ≡ d → list_any (is_named d.name) (take i newer) ≡ false
+front_other [] i d a lt is = absurd (omega arith)
+front_other (x ∷ newer) zero d a lt is = refl
+front_other (x ∷ newer) (suc i) d a lt is = both (other newer i a.0 (omega arith) is) (front_other newer i d a.1 (omega arith) is)
+  where
+    other : (more : List PredDef) (j : ℕ) → AllByRecursion (λ y. is_named x.name y ≡ false) more → j < length more → get_or more j d ≡ d → is_named d.name x ≡ false
+    other [] j a lt is = absurd (omega arith)
+    other (y ∷ more) zero a lt is = same_text-turned x.name d.name ∙ subst (λ (z : PredDef). is_named x.name z ≡ false) is a.0
+    other (y ∷ more) (suc j) a lt is = other more j a.1 (omega arith) is
+
+    both : is_named d.name x ≡ false → list_any (is_named d.name) (take i newer) ≡ false → (is_named d.name x || list_any (is_named d.name) (take i newer)) ≡ false
+    both p q = rw p q
+
+-- behind the tablets of those before, a predicate has a tablet where it was declared before them
+pub named_still : (n : ℕ) (places : List Place) (made : List Tablet) (newer : List PredDef) (i : ℕ) (d : PredDef) (declared : Bool) → AreDistinct newer → i < length newer → get_or newer i d ≡ d → made ≡ fresh n places (take i newer)
+    → list_any (is_place_of d.name) places ≡ declared → list_any (is_place_of d.name) (places ++ map fresh_place made) ≡ declared
+named_still n places made newer i d declared a lt is e known =
+    ap (λ (ts : List Tablet). list_any (is_place_of d.name) (places ++ map fresh_place ts)) e
+    ∙ (any_fresh n places (take i newer) d.name
+    ∙ (ap (λ (b : Bool). list_any (is_place_of d.name) places || b) (front_other newer i d a lt is) ∙ (sym (or_none (list_any (is_place_of d.name) places)) ∙ known)))

@@ -20,7 +20,7 @@ use Rattle.dg_zero.specs.declared.tablets.Place.{Place}
 use Rattle.dg_zero.specs.Counters.{next, next_uid_after, next_uid, Started, active, starts_of, is_active_of}
 use Rattle.dg_zero.specs.Legal.{Fits, FitsLease, IsReason}
 use Rattle.dg_zero.specs.Offers.{IsSound, IsMadeOf}
-use Rattle.dg_zero.specs.Places.{Places, places, places_after, tablets, fresh, fresh_place, is_held}
+use Rattle.dg_zero.specs.Places.{Places, places, places_after, tablets, tally, fresh, fresh_place, is_held}
 use Rattle.dg_zero.specs.States.{IsKept, and_entry, commit_of, owners_of, KeepKinds, AreAlterParts}
 use Rattle.dg_zero.specs.Verdicts.{commits, verdict}
 use Rattle.dg_zero.specs.Worlds.{World, empty_world, world, world_after, schema, schema_at, graph_at}
@@ -49,8 +49,8 @@ pub record Moves (n : ℕ) (h : List Entry) (author : ℕ) (event : Event) (o2 :
   pub line_is : o2.line ≡ 0
   pub uid_moves : uid2 ≡ next_uid_after (next_uid h) event
 
-module _ (n : ℕ) (o : oracle.OracleState ConflictKey) (uid : ℕ) (d : List PredDef) (ps : List Place) (w : List Tablet) (h : List Entry) (author : ℕ) (k : IsKept n o uid d ps w h) where
-  still_keeps : (event : Event) (o2 : oracle.OracleState ConflictKey) (uid2 : ℕ) → IsStill event → Moves n h author event o2 uid2 → IsKept n o2 uid2 d ps w (and_entry h author event)
+module _ {cs : List ℕ} (n : ℕ) (o : oracle.OracleState ConflictKey) (uid : ℕ) (d : List PredDef) (ps : List Place) (w : List Tablet) (h : List Entry) (author : ℕ) (k : IsKept n o uid d ps w h cs) where
+  still_keeps : (event : Event) (o2 : oracle.OracleState ConflictKey) (uid2 : ℕ) → IsStill event → Moves n h author event o2 uid2 → IsKept n o2 uid2 d ps w (and_entry h author event) cs
   still_keeps event o2 uid2 s m =
       let e : Entry = record { author = author; event = event } in
       let same : tablets (h ++ e ∷ []) ≡ tablets h = tablets_push h e ∙ ap (λ (p : Places). p.tablets) (s.places_stay (places h)) in
@@ -65,6 +65,7 @@ module _ (n : ℕ) (o : oracle.OracleState ConflictKey) (uid : ℕ) (d : List Pr
         schema_is = k.schema_is ∙ sym (schema_push h e ∙ s.schema_stays (world h));
         tablets_are = k.tablets_are ∙ sym same;
         owners_are = k.owners_are ∙ sym (ap owners_of same);
+        counts_are = k.counts_are ∙ sym (ap (tally n) same);
         idle = subst (λ (ts : List Place). AllByRecursion (λ (t : Place). t.phase ≡ Idle) ts) (sym same) k.idle;
       }
 
@@ -73,7 +74,7 @@ module _ (n : ℕ) (o : oracle.OracleState ConflictKey) (uid : ℕ) (d : List Pr
   same_next : (event : Event) → next (h ++ (record { author = author; event = event }) ∷ []) ≡ next h → o.next ≡ next (and_entry h author event)
   same_next event e = k.next_is ∙ sym e
 
-  pub look_keeps : IsKept n o uid d ps w (and_entry h author Look)
+  pub look_keeps : IsKept n o uid d ps w (and_entry h author Look) cs
   look_keeps =
       let e : Entry = record { author = author; event = Look } in
       still_keeps Look o uid (record { schema_stays = λ w. refl; places_stay = λ s. refl }) (record {
@@ -87,7 +88,7 @@ module _ (n : ℕ) (o : oracle.OracleState ConflictKey) (uid : ℕ) (d : List Pr
 
   -- ---- a begin
 
-  pub begin_keeps : o.next < 2 ^ 62 → IsKept n (oracle.begun o) uid d ps w (and_entry h author (Begin o.next))
+  pub begin_keeps : o.next < 2 ^ 62 → IsKept n (oracle.begun o) uid d ps w (and_entry h author (Begin o.next)) cs
   begin_keeps lt =
       let e : Entry = record { author = author; event = Begin o.next } in
       still_keeps (Begin o.next) (oracle.begun o) uid (record { schema_stays = λ w. refl; places_stay = λ s. refl }) (record {
@@ -101,7 +102,7 @@ module _ (n : ℕ) (o : oracle.OracleState ConflictKey) (uid : ℕ) (d : List Pr
 
   -- ---- an end
 
-  pub end_keeps : (start : ℕ) → is_active_of (active h) start author ≡ true → IsKept n (oracle.ended o start) uid d ps w (and_entry h author (End start))
+  pub end_keeps : (start : ℕ) → is_active_of (active h) start author ≡ true → IsKept n (oracle.ended o start) uid d ps w (and_entry h author (End start)) cs
   end_keeps start a =
       let e : Entry = record { author = author; event = End start } in
       still_keeps (End start) (oracle.ended o start) uid (record { schema_stays = λ w. refl; places_stay = λ s. refl }) (record {
@@ -113,12 +114,12 @@ module _ (n : ℕ) (o : oracle.OracleState ConflictKey) (uid : ℕ) (d : List Pr
         uid_moves = k.uid_is;
       })
 
-  pub absent_keeps : (start : ℕ) (o2 : oracle.OracleState ConflictKey) → o2 ≡ o → IsKept n o2 uid d ps w (and_entry h author Look)
-  absent_keeps start o2 same = subst (λ (x : oracle.OracleState ConflictKey). IsKept n x uid d ps w (and_entry h author Look)) (sym same) look_keeps
+  pub absent_keeps : (start : ℕ) (o2 : oracle.OracleState ConflictKey) → o2 ≡ o → IsKept n o2 uid d ps w (and_entry h author Look) cs
+  absent_keeps start o2 same = subst (λ (x : oracle.OracleState ConflictKey). IsKept n x uid d ps w (and_entry h author Look) cs) (sym same) look_keeps
 
   -- ---- a refused commit
 
-  pub refused_keeps : (start : ℕ) (reason : Reason) → is_active_of (active h) start author ≡ true → IsReason h start reason → IsKept n (oracle.ended o start) uid d ps w (and_entry h author (Refused start reason))
+  pub refused_keeps : (start : ℕ) (reason : Reason) → is_active_of (active h) start author ≡ true → IsReason h start reason → IsKept n (oracle.ended o start) uid d ps w (and_entry h author (Refused start reason)) cs
   refused_keeps start reason a is =
       let e : Entry = record { author = author; event = Refused start reason } in
       still_keeps (Refused start reason) (oracle.ended o start) uid (record { schema_stays = λ w. refl; places_stay = λ s. refl }) (record {
@@ -132,7 +133,7 @@ module _ (n : ℕ) (o : oracle.OracleState ConflictKey) (uid : ℕ) (d : List Pr
 
   -- ---- a commit
 
-  pub commit_keeps : (offer : Offer) → o.next < 2 ^ 62 → is_active_of (active h) offer.start author ≡ true → verdict h offer.start offer.preds offer.keys ≡ None → IsSound (schema_at h offer.start) (graph_at h offer.start []) offer.preds offer.keys offer.parts → IsMadeOf (schema_at h offer.start) (graph_at h offer.start []) offer.changes offer.keys offer.parts → IsKept n (oracle.committed o offer.start offer.keys) uid d ps w (and_entry h author (commit_of offer o.next))
+  pub commit_keeps : (offer : Offer) → o.next < 2 ^ 62 → is_active_of (active h) offer.start author ≡ true → verdict h offer.start offer.preds offer.keys ≡ None → IsSound (schema_at h offer.start) (graph_at h offer.start []) offer.preds offer.keys offer.parts → IsMadeOf (schema_at h offer.start) (graph_at h offer.start []) offer.changes offer.keys offer.parts → IsKept n (oracle.committed o offer.start offer.keys) uid d ps w (and_entry h author (commit_of offer o.next)) cs
   commit_keeps offer lt a clear sound made_of =
       let e : Entry = record { author = author; event = commit_of offer o.next } in
       still_keeps (commit_of offer o.next) (oracle.committed o offer.start offer.keys) uid (record { schema_stays = λ w. refl; places_stay = λ s. refl }) (record {
@@ -146,7 +147,7 @@ module _ (n : ℕ) (o : oracle.OracleState ConflictKey) (uid : ℕ) (d : List Pr
 
   -- ---- a lease
 
-  pub lease_keeps : (top count first : ℕ) → FitsLease h top count first → IsKept n o (first + count) d ps w (and_entry h author (Lease top count first))
+  pub lease_keeps : (top count first : ℕ) → FitsLease h top count first → IsKept n o (first + count) d ps w (and_entry h author (Lease top count first)) cs
   lease_keeps top count first fits =
       let e : Entry = record { author = author; event = Lease top count first } in
       still_keeps (Lease top count first) o (first + count) (record { schema_stays = λ w. refl; places_stay = λ s. refl }) (record {
@@ -176,7 +177,7 @@ module _ (n : ℕ) (o : oracle.OracleState ConflictKey) (uid : ℕ) (d : List Pr
   all_idle (t ∷ fresh) [] a = (refl, all_idle fresh [] tt)
   all_idle fresh (p ∷ ps) a = (a.0, all_idle fresh ps a.1)
 
-  pub alter_keeps : (newer : List PredDef) (parts : List Part) → author ≡ 0 → o.active ≡ [] → o.next + 1 < 2 ^ 62 → AreDistinct newer → KeepKinds h newer → AreAlterParts h newer parts → IsKept n (oracle.two_drawn o) uid (with_definitions d newer) (ps ++ map fresh_place (fresh n ps newer)) (owners_of (ps ++ map fresh_place (fresh n ps newer))) (and_entry h author (Alter o.next newer (record { ts = o.next + 1; fresh = fresh n ps newer; parts = parts })))
+  pub alter_keeps : (newer : List PredDef) (parts : List Part) → author ≡ 0 → o.active ≡ [] → o.next + 1 < 2 ^ 62 → AreDistinct newer → KeepKinds h newer → AreAlterParts h newer parts → IsKept n (oracle.two_drawn o) uid (with_definitions d newer) (ps ++ map fresh_place (fresh n ps newer)) (owners_of (ps ++ map fresh_place (fresh n ps newer))) (and_entry h author (Alter o.next newer (record { ts = o.next + 1; fresh = fresh n ps newer; parts = parts }))) (tally n (ps ++ map fresh_place (fresh n ps newer)))
   alter_keeps newer parts own idle lt distinct kinds are =
       let event : Event = Alter o.next newer (record { ts = o.next + 1; fresh = fresh n ps newer; parts = parts }) in
       let e : Entry = record { author = author; event = event } in
@@ -193,5 +194,6 @@ module _ (n : ℕ) (o : oracle.OracleState ConflictKey) (uid : ℕ) (d : List Pr
         schema_is = ap (λ (s : List PredDef). with_definitions s newer) k.schema_is ∙ sym (schema_push h e);
         tablets_are = after;
         owners_are = ap owners_of after;
+        counts_are = ap (tally n) after;
         idle = subst (λ (q : List Place). AllByRecursion (λ (t : Place). t.phase ≡ Idle) q) after (all_idle (fresh n ps newer) ps (subst (λ (q : List Place). AllByRecursion (λ (t : Place). t.phase ≡ Idle) q) (sym k.tablets_are) k.idle));
       }

@@ -25,7 +25,7 @@ lease_fits h top count first e = by (nat_le (max (next_uid h) (top + 1) + count)
     by false t e = absurd (cc)
 
 -- what is answered of the next node is where the history leads
-pub leased_keeps : (n : ℕ) (o : oracle.OracleState ConflictKey) (uid : ℕ) (d : List PredDef) (ps : List Place) (w : List Tablet) (h : List Entry) (author : ℕ) → IsKept n o uid d ps w h → (top count first : ℕ) (past : List Entry) → Some first ≡ cond (nat_le (max uid (top + 1) + count) (2 ^ 62)) (Some (max uid (top + 1))) None → past ≡ and_entry h author (Lease top count first) → IsKept n o (first + count) d ps w past
-leased_keeps n o uid d ps w h author k top count first past e p =
+pub leased_keeps : {cs : List ℕ} (n : ℕ) (o : oracle.OracleState ConflictKey) (uid : ℕ) (d : List PredDef) (ps : List Place) (w : List Tablet) (h : List Entry) (author : ℕ) → IsKept n o uid d ps w h cs → (top count first : ℕ) (past : List Entry) → Some first ≡ cond (nat_le (max uid (top + 1) + count) (2 ^ 62)) (Some (max uid (top + 1))) None → past ≡ and_entry h author (Lease top count first) → IsKept n o (first + count) d ps w past cs
+leased_keeps {cs = cs} n o uid d ps w h author k top count first past e p =
     let fits = lease_fits h top count first (e ∙ ap (λ (u : ℕ). cond (nat_le (max u (top + 1) + count) (2 ^ 62)) (Some (max u (top + 1))) None) k.uid_is) in
-    subst (λ (x : List Entry). IsKept n o (first + count) d ps w x) (sym p) (lease_keeps n o uid d ps w h author k top count first fits)
+    subst (λ (x : List Entry). IsKept n o (first + count) d ps w x cs) (sym p) (lease_keeps n o uid d ps w h author k top count first fits)

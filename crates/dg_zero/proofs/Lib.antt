@@ -26,3 +26,10 @@ pub mod StandingCopies
 pub mod LowMarks
 pub mod SharedCopies
 pub mod TabletsAndCopies
+pub mod ListedKeys
+pub mod SoundByTests
+pub mod Examples
+pub mod LegalExamples
+pub mod UnfitExamples
+pub mod RecordsApart
+pub mod TabletPlaces

@@ -175,14 +175,29 @@ has_by_commits n h p l =
 
 -- ---- one entry more, and the state
 
-pub leads_push : (graph : List Triple) (p : List ℕ) (h : List Entry) (e : Entry) → entries_lead_to_object graph p (h ++ e ∷ []) ≡ (entries_lead_to_object graph p h || leads_to_object graph p e.event)
-leads_push graph p h e = list_any-append (λ (e : Entry). leads_to_object graph p e.event) h (e ∷ []) ∙ ap (λ (b : Bool). entries_lead_to_object graph p h || b) (or_false (leads_to_object graph p e.event))
+-- the walk goes back by a commit or an alter that leads to none, or stops at one that leads to some
+pub leads_by_last : (graph : List Triple) (p : List ℕ) (before : List Event) (event : Event) → list_any (leads_to_object graph p) (before ++ event ∷ []) ≡ (list_any (leads_to_object graph p) before || leads_to_object graph p event)
+leads_by_last graph p before event = list_any-append (leads_to_object graph p) before (event ∷ []) ∙ ap (λ (b : Bool). list_any (leads_to_object graph p) before || b) (or_false (leads_to_object graph p event))
   where
     or_false : (b : Bool) → (b || false) ≡ b
     or_false true = refl
     or_false false = refl
 
-module _ (n : ℕ) (o : oracle.OracleState ConflictKey) (uid : ℕ) (d : List PredDef) (ps : List Place) (w : List Tablet) (h : List Entry) (now : Zero) (view : h ≡ now.history) (k : IsKept n o uid d ps w h) (at : ℕ) (at_is : at ≡ o.next) where
+pub leads_passed : (graph : List Triple) (p : List ℕ) (before : List Event) (event : Event) → leads_to_object graph p event ≡ false → list_any (leads_to_object graph p) (before ++ event ∷ []) ≡ list_any (leads_to_object graph p) before
+leads_passed graph p before event none = leads_by_last graph p before event ∙ by (list_any (leads_to_object graph p) before) (leads_to_object graph p event) none
+  where
+    by : (a b : Bool) → b ≡ false → (a || b) ≡ a
+    by true b e = refl
+    by false b e = e
+
+pub leads_at_last : (graph : List Triple) (p : List ℕ) (before : List Event) (event : Event) → leads_to_object graph p event ≡ true → list_any (leads_to_object graph p) (before ++ event ∷ []) ≡ true
+leads_at_last graph p before event found = leads_by_last graph p before event ∙ by (list_any (leads_to_object graph p) before) (leads_to_object graph p event) found
+  where
+    by : (a b : Bool) → b ≡ true → (a || b) ≡ true
+    by true b e = refl
+    by false b e = e
+
+module _ {cs : List ℕ} (n : ℕ) (o : oracle.OracleState ConflictKey) (uid : ℕ) (d : List PredDef) (ps : List Place) (w : List Tablet) (h : List Entry) (now : Zero) (view : h ≡ now.history) (k : IsKept n o uid d ps w h cs) (at : ℕ) (at_is : at ≡ o.next) where
   present : world_at h at ≡ world h
   present = present_is_last n h at k.legal (omega (arith, k.next_is, at_is))
 

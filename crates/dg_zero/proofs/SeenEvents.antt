@@ -34,16 +34,7 @@ seen_world h at declared events s e =
     let whole : world_of events ≡ world_at h at = ap world_of e ∙ sym (world_upto_is h at) in
     λ i. record { schema = s i; graph = (whole i).graph }
 
--- ---- one entry more
-
-pub events_later : (h more : List Entry) (at : ℕ) → events_upto (h ++ more) at ≡ events_upto h at ++ events_upto more at
-events_later h more at =
-    ap (filter (is_upto at)) (map-append (λ (e : Entry). e.event) h more) ∙ filter-append (is_upto at) (map (λ (e : Entry). e.event) h) (map (λ (e : Entry). e.event) more)
-
-pub events_push : (h : List Entry) (e : Entry) (at : ℕ) → events_upto (h ++ e ∷ []) at ≡ events_upto h at ++ where_upto at e.event
-events_push h e at =
-    ap (filter (is_upto at)) (map-append (λ (e : Entry). e.event) h (e ∷ []))
-    ∙ filter-append (is_upto at) (map (λ (e : Entry). e.event) h) (e.event ∷ [])
+-- ---- the walk back
 
 -- what is done to each stays so in reverse
 pub map_reverse : {A B : Type 0} (f : A → B) (xs : List A) → map f (reverse xs) ≡ reverse (map f xs)
@@ -57,12 +48,12 @@ map_reverse f (x ∷ xs) =
 reverse_where : (at : ℕ) (event : Event) → reverse (where_upto at event) ≡ where_upto at event
 reverse_where at event = elim (is_upto at event) as (λ v. reverse (cond v (event ∷ []) []) ≡ cond v (event ∷ []) []) [ true ↦ refl | false ↦ refl ]
 
--- the walk goes back by one entry
-pub gone_back : (h : List Entry) (e : Entry) (at : ℕ) (events : List Event) → events_upto h at ++ reverse (events ++ where_upto at e.event) ≡ events_upto (h ++ e ∷ []) at ++ reverse events
-gone_back h e at events =
-    ap (λ (es : List Event). events_upto h at ++ es) (reverse-append events (where_upto at e.event) ∙ ap (λ (es : List Event). es ++ reverse events) (reverse_where at e.event))
-    ∙ (sym (append_assoc (events_upto h at) (where_upto at e.event) (reverse events))
-    ∙ ap (λ (es : List Event). es ++ reverse events) (sym (events_push h e at)))
+-- the walk goes back by one commit or alter
+pub gone_back : (before : List Event) (event : Event) (at : ℕ) (events : List Event) → filter (is_upto at) before ++ reverse (events ++ where_upto at event) ≡ filter (is_upto at) (before ++ event ∷ []) ++ reverse events
+gone_back before event at events =
+    ap (λ (es : List Event). filter (is_upto at) before ++ es) (reverse-append events (where_upto at event) ∙ ap (λ (es : List Event). es ++ reverse events) (reverse_where at event))
+    ∙ (sym (append_assoc (filter (is_upto at) before) (where_upto at event) (reverse events))
+    ∙ ap (λ (es : List Event). es ++ reverse events) (sym (filter-append (is_upto at) before (event ∷ []))))
 
 -- ---- the definitions of alters are distinct
 

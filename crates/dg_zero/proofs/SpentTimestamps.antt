@@ -1,30 +1,24 @@
 -- What transactions that changed nothing leave: their timestamps are drawn, and all else is as at first.
-use Rattle.std.proofs.Common.{◌≡◌, ℕ, zero, suc, ◌+◌, ◌-◌, ◌≤◌, ◌<◌, ◌^◌, Bool, true, false, List, [], ◌∷◌, ◌++◌, None, fold, refl, ap, subst, ◌∙◌, arith, append_assoc}
-use Rattle.std.specs.Prelude.{◌||◌, ◌==◌, if◌then◌else◌, nat_le, flat_map}
+use Rattle.std.proofs.Common.{◌≡◌, ℕ, zero, suc, ◌+◌, ◌-◌, ◌≤◌, ◌<◌, ◌^◌, Bool, true, false, List, [], ◌∷◌, ◌++◌, fold, refl, ap, subst, ◌∙◌, arith, append_assoc}
+use Rattle.std.specs.Prelude.{◌==◌, if◌then◌else◌, nat_le, flat_map}
 use Rattle.std.proofs.lemmas.Bool.{eq-eqb}
 use Rattle.std.proofs.lemmas.List.Sums.{fold-append}
-use Rattle.std.proofs.lemmas.List.Folds.{list_any-append}
 use Rattle.std.proofs.lemmas.Grind.{flat_map-append}
 use Rattle.dg_schema.specs.declared.definition.PredDef.{PredDef}
-use Rattle.dg_graph.specs.declared.change.Triple.{Triple}
 use Rattle.dg_keys.specs.declared.conflict.ConflictKey.{ConflictKey}
 use Rattle.dg_keys.specs.declared.record.Tablet.{Tablet}
 use Rattle.dg_oracle.specs.Commits as oracle
 use Rattle.dg_zero.specs.declared.entry.Entry.{Entry}
-use Rattle.dg_zero.specs.declared.entry.Event.{Event}
 use Rattle.dg_zero.specs.declared.entry.Event.TheVariants.{Begin, End}
-use Rattle.dg_zero.specs.declared.past.Past.{Past, Spent}
 use Rattle.dg_zero.specs.declared.tablets.Place.{Place}
 use Rattle.dg_zero.specs.Counters.{Started, active, is_active_of}
-use Rattle.dg_zero.specs.Pasts.{own, spent, entries}
-use Rattle.dg_zero.specs.Present.{leads_to_object, entries_lead_to_object}
-use Rattle.dg_zero.specs.Records.{record_of, records, next_record}
-use Rattle.dg_zero.specs.Seen.{events_upto}
+use Rattle.dg_zero.specs.Chains.{own, spent}
+use Rattle.dg_zero.specs.Records.{record_of, records}
+use Rattle.dg_zero.specs.Places.{tally}
 use Rattle.dg_zero.specs.States.{IsKept}
 use Rattle.dg_zero.specs.Worlds.{empty_world, world_at, world_upto}
 use Rattle.dg_zero.proofs.Histories.{active_push}
 use Rattle.dg_zero.proofs.Kept.{begin_keeps, end_keeps, none_active}
-use Rattle.dg_zero.proofs.SeenEvents.{events_later}
 
 -- ---- what no begin and no end changes
 
@@ -47,26 +41,12 @@ none_spent {B} f begun ended (suc n) =
 pub records_spent : (n : ℕ) → records (spent n) ≡ []
 records_spent n = none_spent (λ (e : Entry). record_of e.event) (λ start. refl) (λ start. refl) n
 
-pub next_record_spent : (n after : ℕ) → next_record (spent n) after ≡ None
-next_record_spent n after = rw (records_spent n) refl
-
-pub leads_spent : (graph : List Triple) (p : List ℕ) (n : ℕ) → entries_lead_to_object graph p (spent n) ≡ false
-leads_spent graph p zero = refl
-leads_spent graph p (suc n) =
-    list_any-append (λ (e : Entry). leads_to_object graph p e.event) (spent n) (own (Begin (suc n)) ∷ own (End (suc n)) ∷ [])
-    ∙ ap (λ (b : Bool). b || false) (leads_spent graph p n)
-
 pub world_at_spent : (n at : ℕ) → world_at (spent n) at ≡ empty_world
 world_at_spent n at = fold_spent (world_upto at) empty_world (λ start. either (nat_le 0 at)) (λ start. either (nat_le 0 at)) n
   where
     either : (b : Bool) → (if b then empty_world else empty_world) ≡ empty_world
     either true = refl
     either false = refl
-
--- no commit and no alter is among them
-pub events_spent : (n at : ℕ) → events_upto (spent n) at ≡ []
-events_spent zero at = refl
-events_spent (suc n) at = events_later (spent n) (own (Begin (suc n)) ∷ own (End (suc n)) ∷ []) at ∙ ap (λ (es : List Event). es ++ []) (events_spent n at)
 
 -- ---- what a state keeps
 
@@ -84,7 +64,7 @@ drawn_and_ended n =
     rw (itself (suc n), one) refl
 
 -- after so many of them the state is as at first, but for the next timestamp
-pub spent_keeps : (groups : ℕ) → 1 ≤ groups → (n : ℕ) → n < 2 ^ 62 → IsKept groups (oracle_at (suc n)) 1 [] [] [] (spent n)
+pub spent_keeps : (groups : ℕ) → 1 ≤ groups → (n : ℕ) → n < 2 ^ 62 → IsKept groups (oracle_at (suc n)) 1 [] [] [] (spent n) (tally groups [])
 spent_keeps groups some zero lt = record {
   least = some;
   legal = tt;
@@ -96,6 +76,7 @@ spent_keeps groups some zero lt = record {
   schema_is = refl;
   tablets_are = refl;
   owners_are = refl;
+  counts_are = refl;
   idle = tt;
 }
 spent_keeps groups some (suc n) lt =
@@ -108,23 +89,12 @@ spent_keeps groups some (suc n) lt =
     let alone : active (spent n ++ begin ∷ []) ≡ (record { start = suc n; author = 0 }) ∷ [] = active_push (spent n) begin ∙ ap (λ (starts : List Started). starts ++ (record { start = suc n; author = 0 }) ∷ []) none in
     let found : is_active_of (active (spent n ++ begin ∷ [])) (suc n) 0 ≡ true = rw (alone, itself (suc n)) refl in
     let ended = end_keeps groups (oracle.begun (oracle_at (suc n))) 1 [] [] [] (spent n ++ begin ∷ []) 0 begun (suc n) found in
-    subst (λ (h : List Entry). IsKept groups (oracle_at (suc (suc n))) 1 [] [] [] h) (append_assoc (spent n) (begin ∷ []) (end ∷ []))
-    (subst (λ (o : oracle.OracleState ConflictKey). IsKept groups o 1 [] [] [] ((spent n ++ begin ∷ []) ++ end ∷ [])) (drawn_and_ended n) ended)
+    subst (λ (h : List Entry). IsKept groups (oracle_at (suc (suc n))) 1 [] [] [] h (tally groups [])) (append_assoc (spent n) (begin ∷ []) (end ∷ []))
+    (subst (λ (o : oracle.OracleState ConflictKey). IsKept groups o 1 [] [] [] ((spent n ++ begin ∷ []) ++ end ∷ []) (tally groups [])) (drawn_and_ended n) ended)
 
 -- the same of a state that begins with this timestamp
-pub starting_keeps : (groups next : ℕ) (o : oracle.OracleState ConflictKey) (d : List PredDef) (ps : List Place) (w : List Tablet) → 1 ≤ groups → 1 ≤ next → next ≤ 2 ^ 62 → o ≡ oracle_at next → d ≡ [] → ps ≡ [] → w ≡ [] → IsKept groups o 1 d ps w (spent (next - 1))
-starting_keeps groups next o d ps w some first last oracle_is schema_is tablets_are owners_are =
+pub starting_keeps : (groups next : ℕ) (o : oracle.OracleState ConflictKey) (d : List PredDef) (ps : List Place) (w : List Tablet) (cs : List ℕ) → 1 ≤ groups → 1 ≤ next → next ≤ 2 ^ 62 → o ≡ oracle_at next → d ≡ [] → ps ≡ [] → w ≡ [] → cs ≡ tally groups [] → IsKept groups o 1 d ps w (spent (next - 1)) cs
+starting_keeps groups next o d ps w cs some first last oracle_is schema_is tablets_are owners_are counts_are =
     let back : suc (next - 1) ≡ next = omega (arith, first) in
     let below : next - 1 < 2 ^ 62 = omega (arith, first, last) in
-    rw (oracle_is, schema_is, tablets_are, owners_are) (subst (λ (m : ℕ). IsKept groups (oracle_at m) 1 [] [] [] (spent (next - 1))) back (spent_keeps groups some (next - 1) below))
-
--- ---- at the foot of a chain
-
-pub next_record_at_foot : (past : Past) (n after : ℕ) → past ≡ Spent n → next_record (entries past) after ≡ None
-next_record_at_foot past n after e = ap (λ (p : Past). next_record (entries p) after) e ∙ next_record_spent n after
-
-pub events_at_foot : (past : Past) (n at : ℕ) → past ≡ Spent n → events_upto (entries past) at ≡ []
-events_at_foot past n at e = ap (λ (p : Past). events_upto (entries p) at) e ∙ events_spent n at
-
-pub leads_at_foot : (graph : List Triple) (pred : List ℕ) (past : Past) (n : ℕ) → past ≡ Spent n → entries_lead_to_object graph pred (entries past) ≡ false
-leads_at_foot graph pred past n e = ap (λ (p : Past). entries_lead_to_object graph pred (entries p)) e ∙ leads_spent graph pred n
+    rw (oracle_is, schema_is, tablets_are, owners_are, counts_are) (subst (λ (m : ℕ). IsKept groups (oracle_at m) 1 [] [] [] (spent (next - 1)) (tally groups [])) back (spent_keeps groups some (next - 1) below))

@@ -156,6 +156,10 @@ groups (suc n) = groups n ++ (n + 1) ∷ []
 abbrev pub owned : List Place → ℕ → ℕ
 owned tablets group = count_by (λ t. t.group == group) tablets
 
+-- how many tablets each of n groups owns
+abbrev pub tally : ℕ → List Place → List ℕ
+tally n tablets = map (owned tablets) (groups n)
+
 -- the group with the fewest tablets, of those the lowest
 abbrev pub fewest : List Place → List ℕ → ℕ
 fewest tablets numbers = fold (λ best group. if nat_lt (owned tablets group) (owned tablets best) then group else best) 1 numbers

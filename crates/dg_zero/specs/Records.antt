@@ -1,5 +1,5 @@
 -- The records of a history, and the keys of a tablet that they change.
-use Rattle.std.specs.Prelude.{ℕ, ◌&&◌, nat_lt, nat_le, List, [], ◌∷◌, Option, Some, None, map, filter, flat_map, find}
+use Rattle.std.specs.Prelude.{ℕ, ◌&&◌, nat_lt, nat_le, List, [], ◌∷◌, Option, map, filter, flat_map, find}
 use Rattle.dg_values.specs.Order.{same_text}
 use Rattle.dg_values.specs.Ascending.{ascending}
 use Rattle.dg_keys.specs.declared.key.Key.{Key}
@@ -39,8 +39,3 @@ keys_of pred r = filter (λ key. same_text (pred_of key) pred) (map (λ (part : 
 -- the keys of a tablet whose lists were changed above a mark and at or below another, each once
 abbrev pub changed_keys : List Entry → List ℕ → ℕ → ℕ → List Key
 changed_keys history pred mark upto = ascending key_cmp (flat_map (keys_of pred) (records_between history mark upto))
-
--- the first, or the second where that is none
-abbrev pub first_of : Option Record → Option Record → Option Record
-first_of None other = other
-first_of (Some r) other = Some r

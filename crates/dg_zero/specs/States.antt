@@ -26,7 +26,7 @@ use Rattle.dg_zero.specs.declared.tablets.Place.{Place}
 use Rattle.dg_zero.specs.Counters.{next, next_uid, active, starts_of}
 use Rattle.dg_zero.specs.Worlds.{world, schema}
 use Rattle.dg_zero.specs.Listings.{AreGainsAndLosses}
-use Rattle.dg_zero.specs.Places.{tablets, fresh, is_held}
+use Rattle.dg_zero.specs.Places.{tablets, tally, fresh, is_held}
 use Rattle.dg_zero.specs.Verdicts as verdicts
 use Rattle.dg_zero.specs.Verdicts.{first}
 use Rattle.dg_zero.specs.Legal.{IsLegal, KeepsKind}
@@ -48,8 +48,8 @@ owners_of places = ascending tablet_cmp (map tablet_of places)
 abbrev pub owners : List Entry → List Tablet
 owners history = owners_of (tablets history)
 
--- what a state keeps: its history is legal, and the oracle, the next node, the schema, the tablets and the owners are where it leads; nothing is moved, and the line isn't advanced yet
-pub record IsKept (groups : ℕ) (oracle : OracleState ConflictKey) (uid : ℕ) (declared : List PredDef) (places : List Place) (owned : List Tablet) (history : List Entry) : Type 0 where
+-- what a state keeps: its history is legal, and the oracle, the next node, the schema, the tablets, the owners and the number of tablets of each group are where it leads; nothing is moved, and the line isn't advanced yet
+pub record IsKept (groups : ℕ) (oracle : OracleState ConflictKey) (uid : ℕ) (declared : List PredDef) (places : List Place) (owned : List Tablet) (history : List Entry) (counts : List ℕ) : Type 0 where
   pub least : 1 ≤ groups
   pub legal : IsLegal groups history
   pub next_is : oracle.next ≡ next history
@@ -60,6 +60,7 @@ pub record IsKept (groups : ℕ) (oracle : OracleState ConflictKey) (uid : ℕ) 
   pub schema_is : declared ≡ schema history
   pub tablets_are : places ≡ tablets history
   pub owners_are : owned ≡ owners history
+  pub counts_are : counts ≡ tally groups (tablets history)
   pub idle : AllByRecursion (λ (t : Place). t.phase ≡ Idle) (tablets history)
 
 -- the history with one entry more

@@ -4,7 +4,8 @@ ghost use Rattle.dg_zero.specs.Counters.{next_uid, leased};
 ghost use Rattle.dg_zero.specs.Legal.{IsLegal};
 ghost use Rattle.dg_zero.specs.States.{and_then};
 
-use crate::past::append;
+use crate::appending::append;
+use crate::chain::What;
 use crate::{Event, Slip, ZeroFault, ZeroState};
 
 // The nodes are those below this one.
@@ -51,11 +52,11 @@ impl ZeroState {
         match first_of(self.next_uid, top, count) {
             Some(first) => {
                 self.next_uid = first + count;
-                append(&mut self.past, slip, Event::Lease { top, count, first });
+                append(&mut self.past, slip, What::Lease { top, count, first });
                 Ok(first)
             }
             None => {
-                append(&mut self.past, slip, Event::Look);
+                append(&mut self.past, slip, What::Look);
                 Err(ZeroFault::UidsSpent {
                     next: self.next_uid,
                 })

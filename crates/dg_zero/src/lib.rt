@@ -6,16 +6,20 @@
 #![tactic(auto)]
 
 mod alter;
+mod appending;
+mod chain;
 mod commit;
 mod entry;
 mod fault;
 mod fresh;
 mod laws;
 mod lease;
+mod named;
 mod offer;
 mod owners;
 mod past;
 mod present;
+mod recorded;
 mod seen;
 mod stream;
 mod tablets;

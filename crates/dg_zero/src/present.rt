@@ -7,12 +7,14 @@ ghost use Rattle.dg_graph.specs.Graphs.{is_of};
 ghost use Rattle.dg_oracle.specs.Commits.{is_among as is_one_of};
 ghost use Rattle.dg_zero.specs.Counters.{active};
 ghost use Rattle.dg_zero.specs.Pasts.{entries};
+ghost use Rattle.dg_zero.specs.Recorded.{told};
 ghost use Rattle.dg_zero.specs.Present.{has_object, AreBare, lists_object, parts_list_object, leads_to_object, entries_lead_to_object};
 ghost use Rattle.dg_zero.specs.States.{IsLeastStart};
 ghost use Rattle.dg_zero.specs.Worlds.{world, schema};
 
 use crate::past::Past;
-use crate::{Event, Seen, ZeroState};
+use crate::recorded::{Recorded, last_recorded};
+use crate::{Seen, ZeroState};
 use dg_keys::{Key, Part};
 use dg_schema::Schema;
 use dg_values::{Mem, OutOfMemory};
@@ -48,30 +50,38 @@ impl ZeroState {
     }
 }
 
-// Whether a commit of the chain leads to an object that is there.
+// Whether a commit of the history leads to an object that is there.
 fn past_leads(alloc: Global, past: &Past, seen: &Seen, p: &str) -> Mem<bool>
     ensures { IfOk result (λ has. has ≡ entries_lead_to_object seen.now.graph p.now (entries past.now)) }
 {
     let mut bare = Vec::new(alloc);
-    let mut rest = past;
-    while let Past::After(before, entry) = rest {
-        if event_leads(alloc, &entry.event, seen, p, &mut bare)? {
+    let mut rest = &past.chain;
+    let mut left = past.records.as_slice();
+    while let Some((event, before, fewer)) = last_recorded(rest, left) {
+        if event_leads(alloc, &event, seen, p, &mut bare)? {
             return Ok(true);
         }
         rest = before;
+        left = fewer;
     }
     Ok(false)
 }
 
 // Whether the event is a commit that leads to an object that is there. Subjects without an object are remembered.
-fn event_leads(alloc: Global, event: &Event, seen: &Seen, p: &str, bare: &mut Vec<u64>) -> Mem<bool>
+fn event_leads(
+    alloc: Global,
+    event: &Recorded,
+    seen: &Seen,
+    p: &str,
+    bare: &mut Vec<u64>,
+) -> Mem<bool>
     requires { AreBare seen.now.graph p.now bare.old.items }
-    ensures leads { IfOk result (λ has. has ≡ leads_to_object seen.now.graph p.now event.now) }
+    ensures leads { IfOk result (λ has. has ≡ leads_to_object seen.now.graph p.now (told event.now)) }
     ensures bare { OnOk result (AreBare seen.now.graph p.now bare.new.items) }
 {
     match event {
-        Event::Commit { written, .. } => parts_list(alloc, written.parts.as_slice(), seen, p, bare),
-        _ => Ok(false),
+        Recorded::Commit(_, written) => parts_list(alloc, written.parts.as_slice(), seen, p, bare),
+        Recorded::Alter(..) => Ok(false),
     }
 }
 

@@ -4,11 +4,13 @@ ghost use Rattle.dg_values.specs.Ascending.{with_one};
 ghost use Rattle.dg_values.specs.Order.{posting_cmp};
 ghost use Rattle.dg_graph.specs.Graphs.{objects};
 ghost use Rattle.dg_zero.specs.Pasts.{entries};
+ghost use Rattle.dg_zero.specs.Recorded.{told};
 ghost use Rattle.dg_zero.specs.Worlds.{world_at, schema_at};
 ghost use Rattle.dg_zero.specs.Seen.{is_upto, where_upto, events_upto, world_of, none_standing, is_data_of, is_single_after, standing_after_op, standing_after_part, standing_after};
 
+use crate::ZeroState;
 use crate::past::Past;
-use crate::{Event, ZeroState};
+use crate::recorded::{Recorded, last_recorded};
 use dg_delta::Op;
 use dg_graph::{Snapshot, put_sole};
 use dg_keys::{Key, Part};
@@ -27,20 +29,21 @@ use std::sync::ledger::Ledger;
 #[derive(Drop)]
 pub struct Seen<'a> {
     schema: &'a Schema,
-    events: Vec<&'a Event>,
+    events: Vec<Recorded<'a>>,
 }
 
 impl<'a> Model for Seen<'a> {
     ghost use Rattle.std.specs.Prelude.{map};
     ghost use Rattle.std.specs.List.{AllByRecursion};
+    ghost use Rattle.dg_zero.specs.Recorded.{told};
     ghost use Rattle.dg_zero.specs.Worlds.{World};
     ghost use Rattle.dg_zero.specs.Seen.{world_of, HasDistinct};
 
     ghost Value = { World };
 
-    ghost view = { λ s. record { schema = s.schema.now; graph = (world_of (map (λ e. e.now) s.events.items)).graph } };
+    ghost view = { λ s. record { schema = s.schema.now; graph = (world_of (map told s.events.items)).graph } };
 
-    ghost invariant = { λ s. AllByRecursion HasDistinct (map (λ e. e.now) s.events.items) };
+    ghost invariant = { λ s. AllByRecursion HasDistinct (map told s.events.items) };
 }
 
 // The objects of a subject so far, which ascend, and whether its predicate allows one at most.
@@ -62,36 +65,37 @@ impl Model for Subject {
     ghost invariant = { λ s. Ascends posting_cmp s.objects.items };
 }
 
-// Whether the event is a commit or an alter at or below a timestamp.
-fn is_upto(event: &Event, at: u64) -> bool
-    ensures { result ≡ is_upto at event.now }
+// Whether a commit or an alter is at or below a timestamp.
+fn is_upto(event: &Recorded, at: u64) -> bool
+    ensures { result ≡ is_upto at (told event.now) }
 {
     match event {
-        Event::Commit { written, .. } => written.ts <= at,
-        Event::Alter { written, .. } => written.ts <= at,
-        _ => false,
+        Recorded::Commit(_, written) => written.ts <= at,
+        Recorded::Alter(_, written) => written.ts <= at,
     }
 }
 
-// Adds the event, where it is a commit or an alter at or below a timestamp.
-fn push_upto<'a>(events: &mut Vec<&'a Event>, event: &'a Event, at: u64) -> Mem<()>
-    ensures { OnOk result (map (λ e. e.now) events.new.items ≡ map (λ e. e.now) events.old.items ++ where_upto at event.now) }
+// Adds a commit or an alter, where it is at or below a timestamp.
+fn push_upto<'a>(events: &mut Vec<Recorded<'a>>, event: Recorded<'a>, at: u64) -> Mem<()>
+    ensures { OnOk result (map told events.new.items ≡ map told events.old.items ++ where_upto at (told event.entry)) }
 {
-    if is_upto(event, at) {
+    if is_upto(&event, at) {
         events.push(event)?;
     }
     Ok(())
 }
 
-// The commits and alters of a chain at or below a timestamp, the oldest first.
-fn events_upto<'a>(alloc: Global, past: &'a Past, at: u64) -> Mem<Vec<&'a Event>>
-    ensures { IfOk result (λ v. map (λ e. e.now) v.items ≡ events_upto (entries past.now) at) }
+// The commits and alters at or below a timestamp, the oldest first.
+fn events_upto<'a>(alloc: Global, past: &'a Past, at: u64) -> Mem<Vec<Recorded<'a>>>
+    ensures { IfOk result (λ v. map told v.items ≡ events_upto (entries past.now) at) }
 {
     let mut events = Vec::new(alloc);
-    let mut rest = past;
-    while let Past::After(before, entry) = rest {
-        push_upto(&mut events, &entry.event, at)?;
+    let mut rest = &past.chain;
+    let mut left = past.records.as_slice();
+    while let Some((event, before, fewer)) = last_recorded(rest, left) {
+        push_upto(&mut events, event, at)?;
         rest = before;
+        left = fewer;
     }
     events.reverse();
     Ok(events)
@@ -184,25 +188,22 @@ impl Subject {
     }
 
     // Goes on by one event.
-    fn go_on(&mut self, alloc: Global, p: &str, s: u64, event: &Event) -> Mem<()>
-        ensures { OnOk result (self.new ≡ standing_after p.now s self.old event.now) }
+    fn go_on(&mut self, alloc: Global, p: &str, s: u64, event: &Recorded) -> Mem<()>
+        ensures { OnOk result (self.new ≡ standing_after p.now s self.old (told event.now)) }
     {
         match event {
-            Event::Commit { written, .. } => {
-                self.apply_parts(alloc, p, s, written.parts.as_slice())
-            }
-            Event::Alter { newer, .. } => {
-                self.single = is_single_after(newer, p, self.single);
+            Recorded::Commit(_, written) => self.apply_parts(alloc, p, s, written.parts.as_slice()),
+            Recorded::Alter(altered, _) => {
+                self.single = is_single_after(&altered.newer, p, self.single);
                 Ok(())
             }
-            _ => Ok(()),
         }
     }
 }
 
 // The objects of a subject after events in turn.
-pub fn objects_after(alloc: Global, events: &[&Event], p: &str, s: u64) -> Mem<Vec<Posting>>
-    ensures { IfOk result (λ v. v.items ≡ (fold (λ st e. standing_after p.now s st e.now) none_standing events.now).objects) }
+pub fn objects_after(alloc: Global, events: &[Recorded], p: &str, s: u64) -> Mem<Vec<Posting>>
+    ensures { IfOk result (λ v. v.items ≡ (fold (λ st e. standing_after p.now s st (told e)) none_standing events.now).objects) }
 {
     let mut subject = Subject::none(alloc);
     for event in events {

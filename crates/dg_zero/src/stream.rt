@@ -1,58 +1,31 @@
-// The records of a chain.
-ghost use Rattle.std.specs.Prelude.{◌≡◌, nat_le, nat_lt, find, option_copied, option_to_list, map};
-ghost use Rattle.std.specs.List.{list_any};
+// The first record above a timestamp.
+ghost use Rattle.std.specs.Prelude.{◌≡◌, ◌≤◌, true, false, nat_lt, nat_le, find, length, option_copied, slice_get, map};
+ghost use Rattle.std.specs.List.Sorted.{IsPartitionPoint};
 ghost use Rattle.dg_oracle.specs.Commits.{Ascends};
-ghost use Rattle.dg_zero.specs.Pasts.{entries};
-ghost use Rattle.dg_zero.specs.Records.{record_of, records, next_record, first_of, ts_of};
+ghost use Rattle.dg_zero.specs.Records.{ts_of};
 
-use crate::Event;
-use crate::past::Past;
 use dg_keys::Record;
 
-// The record of an event that has one.
-fn written_of(event: &Event) -> Option<&Record>
-    ensures { option_to_list (option_copied result) ≡ record_of event.now }
+// How many records aren't above a timestamp.
+fn records_upto(records: &[Record], after: u64) -> usize
+    requires { Ascends 0 (map ts_of records.now) }
+    ensures within { result ≤ length records.now }
+    ensures point { IsPartitionPoint (λ r. nat_le r.ts after ≡ true) (λ r. nat_le r.ts after ≡ false) records.now result }
 {
-    match event {
-        Event::Commit { written, .. } => Some(written),
-        Event::Alter { written, .. } => Some(written),
-        _ => None,
-    }
+    records.partition_point(|written| written.ts <= after)
 }
 
-// Whether the event has a record that isn't above the timestamp.
-fn is_past(event: &Event, after: u64) -> bool
-    ensures { result ≡ list_any (λ r. nat_le r.ts after) (record_of event.now) }
+// The record at a place, where there is one.
+fn record_at(records: &[Record], place: usize) -> Option<&Record>
+    ensures { option_copied result ≡ slice_get records.now place }
 {
-    match written_of(event) {
-        Some(written) => written.ts <= after,
-        None => false,
-    }
+    records.get(place)
 }
 
-// The event's record, where it has one that is above the timestamp, and else the one that was found.
-fn earlier<'a>(event: &'a Event, after: u64, found: Option<&'a Record>) -> Option<&'a Record>
-    ensures { option_copied result ≡ first_of (find (λ r. nat_lt after r.ts) (record_of event.now)) (option_copied found.entry) }
+// The first record above a timestamp, by halves.
+pub fn record_after(records: &[Record], after: u64) -> Option<&Record>
+    requires ascend { Ascends 0 (map ts_of records.now) }
+    ensures { option_copied result ≡ find (λ r. nat_lt after r.ts) records.now }
 {
-    match written_of(event) {
-        Some(written) if written.ts > after => Some(written),
-        _ => found,
-    }
-}
-
-// The first record above a timestamp. It goes back to the last one that isn't above it, and no further.
-pub fn record_after(past: &Past, after: u64) -> Option<&Record>
-    requires ascend { Ascends 0 (map ts_of (records (entries past.now))) }
-    ensures { option_copied result ≡ next_record (entries past.now) after }
-{
-    let mut rest = past;
-    let mut found = None;
-    while let Past::After(before, entry) = rest {
-        if is_past(&entry.event, after) {
-            return found;
-        }
-        found = earlier(&entry.event, after, found);
-        rest = before;
-    }
-    found
+    record_at(records, records_upto(records, after))
 }

@@ -9,7 +9,10 @@ ghost use Rattle.dg_zero.specs.Records.{next_record};
 ghost use Rattle.dg_zero.specs.States.{and_then, owners, IsBeginFault};
 ghost use Rattle.dg_zero.specs.Worlds.{schema};
 
-use crate::past::{Past, append};
+use crate::appending::append;
+use crate::chain::{Chain, What};
+use crate::fresh::no_counts;
+use crate::past::Past;
 use crate::stream::record_after;
 use crate::tablets::Place;
 use crate::{Event, Owners, Slip, ZeroFault};
@@ -24,8 +27,9 @@ use std::sync::Arc;
 
 /// All that happened, and where it leads. Contracts see the number of groups and the history, which is legal.
 ///
-/// The history stands in memory whole. Beside it stand the next timestamp, the active starts and the keys of commits
-/// (in the oracle), the next node, the present schema and owners, which a begin shares, and the tablets.
+/// The history stands in memory whole, its records in a list of their own. Beside it stand the next timestamp, the active
+/// starts and the keys of commits (in the oracle), the next node, the present schema and owners, which a begin shares, the
+/// tablets, and how many of them each group owns.
 #[derive(Drop)]
 pub struct ZeroState {
     pub(crate) alloc: Global,
@@ -36,6 +40,7 @@ pub struct ZeroState {
     pub(crate) tablets: Vec<Place>,
     pub(crate) owners: Arc<Owners>,
     pub(crate) past: Past,
+    pub(crate) counts: Vec<usize>,
 }
 
 impl Model for ZeroState {
@@ -47,7 +52,7 @@ impl Model for ZeroState {
 
     ghost view = { λ z. record { groups = z.groups; history = entries z.past } };
 
-    ghost invariant = { λ z. IsKept z.groups z.oracle z.next_uid (arc_value z.schema) z.tablets.items (arc_value z.owners) (entries z.past) };
+    ghost invariant = { λ z. IsKept z.groups z.oracle z.next_uid (arc_value z.schema) z.tablets.items (arc_value z.owners) (entries z.past) z.counts.items };
 }
 
 impl Logged for ZeroState {
@@ -93,7 +98,11 @@ impl ZeroState {
             schema: Arc::new(alloc, Schema::new(alloc))?,
             tablets: Vec::new(alloc),
             owners: Arc::new(alloc, Owners::none(alloc))?,
-            past: Past::Spent(next - 1),
+            past: Past {
+                chain: Chain::Spent(next - 1),
+                records: Vec::new(alloc),
+            },
+            counts: no_counts(alloc, groups)?,
         })
     }
 
@@ -120,12 +129,12 @@ impl ZeroState {
         ensures legal { IsLegal self.new.groups self.new.history }
     {
         let Ok((schema, owners)) = self.shared() else {
-            append(&mut self.past, slip, Event::Look);
+            append(&mut self.past, slip, What::Look);
             return Err(ZeroFault::OutOfMemory);
         };
         match self.oracle.begin() {
             Ok(start) => {
-                append(&mut self.past, slip, Event::Begin { start });
+                append(&mut self.past, slip, What::Begin { start });
                 Ok(Begun {
                     start,
                     schema,
@@ -133,7 +142,7 @@ impl ZeroState {
                 })
             }
             Err(fault) => {
-                append(&mut self.past, slip, Event::Look);
+                append(&mut self.past, slip, What::Look);
                 Err(ZeroFault::from(fault))
             }
         }
@@ -147,10 +156,10 @@ impl ZeroState {
         ensures legal { IsLegal self.new.groups self.new.history }
     {
         if self.oracle.end(start) {
-            append(&mut self.past, slip, Event::End { start });
+            append(&mut self.past, slip, What::End { start });
             true
         } else {
-            append(&mut self.past, slip, Event::Look);
+            append(&mut self.past, slip, What::Look);
             false
         }
     }
@@ -160,14 +169,14 @@ impl ZeroState {
         ensures history { self.new ≡ and_then self.old slip Event.Look }
         ensures legal { IsLegal self.new.groups self.new.history }
     {
-        append(&mut self.past, slip, Event::Look);
+        append(&mut self.past, slip, What::Look);
     }
 
-    /// The first record above a timestamp; none exactly where there is none. It appends nothing and takes no memory,
-    /// and costs by the entries since.
+    /// The first record above a timestamp; none exactly where there is none. It appends nothing, takes no memory and goes
+    /// by halves over the records.
     pub fn next_record(&self, after: u64) -> Option<&Record>
         ensures { option_copied result ≡ next_record self.now.history after }
     {
-        record_after(&self.past, after)
+        record_after(self.past.records.as_slice(), after)
     }
 }

@@ -52,7 +52,7 @@ fn order_text(alloc: Global, order: &[usize]) -> Mem<String> {
 }
 
 // The name of a fault and its fields.
-fn fault_text(alloc: Global, fault: &CheckFault) -> Mem<String> {
+pub(crate) fn fault_text(alloc: Global, fault: &CheckFault) -> Mem<String> {
     match fault {
         CheckFault::UnknownVariable { name } => Ok(format!(in alloc; "UnknownVariable {name}")?),
         CheckFault::VariableTwice { name } => Ok(format!(in alloc; "VariableTwice {name}")?),

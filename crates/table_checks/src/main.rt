@@ -1,10 +1,12 @@
 //! Reads rows from standard input and prints each with its answer: what is wrong with a query or an upsert block, or in
-//! which order its blocks run; and what a maker of patterns builds. A row is the name of a table and a text or fields, with a
-//! tab between any two. A row of the table `schema` declares the predicates of the rows behind it.
+//! which order its blocks run; its plan, with what is read of its functions; and what a maker of patterns builds. A row is
+//! the name of a table and a text or fields, with a tab between any two. A row of the table `schema` declares the predicates
+//! of the rows behind it.
 #![tactic(auto)]
 
 mod answers;
 mod patterns;
+mod plans;
 
 ghost use Rattle.std.specs.Prelude.{◌≤◌, length};
 
@@ -51,6 +53,8 @@ fn answer(alloc: Global, schema: &mut Schema, table: &str, text: &str) -> Mem<Op
         "schema" => declare(alloc, schema, text),
         "query" => answers::query(alloc, schema, text),
         "upsert" => answers::upsert(alloc, schema, text),
+        "plan" => plans::plan(alloc, schema, text),
+        "upsert_plan" => plans::upsert_plan(alloc, schema, text),
         "pattern" => patterns::pattern(alloc, text),
         _ => Ok(None),
     }

@@ -2,9 +2,11 @@
 use crate::fields::{Answer, RowFault, numbers_of, shown};
 use crate::replies::Replies;
 use crate::script::Script;
+use dg_check::RegexPatterns;
 use dg_io::{MemSink, MemSource, OpenGate};
 use dg_node::{Status, dgraph_top, run_script, run_script_from};
 use std::alloc::{AllocError, Global};
+use std::array;
 use std::fmt::Write;
 use std::sync::Wait;
 use std::thread::Threads;
@@ -24,13 +26,27 @@ const LONGEST_SHOWN: usize = 400;
 // How much of it.
 const SHOWN_FRONT: usize = 40;
 
+// As many makers of patterns as the whole program has.
+fn makers(alloc: Global) -> [RegexPatterns; 17] {
+    array::from_fn(|_| RegexPatterns::new(alloc))
+}
+
 /// Runs the script by the word `run`: each of its rows with its reply, and how the run ends.
 pub fn run<R: Threads + Wait + Sync>(rt: &R, alloc: Global, script: &mut Script) -> Answer {
     let bytes = Vec::from_slice(alloc, script.bytes())?;
     let mut source = MemSource::new(bytes, Vec::new(alloc), MOST_BYTES);
     let mut sink = Replies::new(alloc);
     let words = words_of(alloc, "run")?;
-    let status = dgraph_top(rt, alloc, &words, &mut source, &mut sink, &OpenGate);
+    let mut makers = makers(alloc);
+    let status = dgraph_top(
+        rt,
+        alloc,
+        &words,
+        &mut source,
+        &mut sink,
+        &OpenGate,
+        &mut makers,
+    );
     told(alloc, script, "run", status, sink.pieces())
 }
 
@@ -127,7 +143,8 @@ pub fn again(alloc: Global, script: &Script, said: &[&str]) -> Answer {
     let bytes = Vec::from_slice(alloc, front)?;
     let mut source = MemSource::new(bytes, numbers_of(alloc, reads)?, most);
     let mut sink = MemSink::new(alloc, numbers_of(alloc, writes)?, most);
-    let status = run_script(alloc, GROUPS, &mut source, &mut sink);
+    let mut maker = RegexPatterns::new(alloc);
+    let status = run_script(alloc, GROUPS, &mut source, &mut sink, &mut maker);
     let ending = ending(alloc, status)?;
     let compared = compared(alloc, script, sink.bytes())?;
     Ok(format!(in alloc; "{ending}, {compared}")?)
@@ -166,7 +183,8 @@ pub fn groups(alloc: Global, script: &Script, said: &[&str]) -> Answer {
     let bytes = Vec::from_slice(alloc, script.bytes())?;
     let mut source = MemSource::new(bytes, Vec::new(alloc), MOST_BYTES);
     let mut sink = MemSink::new(alloc, Vec::new(alloc), MOST_BYTES);
-    let status = run_script(alloc, count, &mut source, &mut sink);
+    let mut maker = RegexPatterns::new(alloc);
+    let status = run_script(alloc, count, &mut source, &mut sink, &mut maker);
     let ending = ending(alloc, status)?;
     let compared = compared(alloc, script, sink.bytes())?;
     Ok(format!(in alloc; "{ending}, {compared}")?)
@@ -178,7 +196,16 @@ pub fn words<R: Threads + Wait + Sync>(rt: &R, alloc: Global, said: &[&str]) -> 
     let bytes = Vec::from_slice(alloc, b"begin 1\n")?;
     let mut source = MemSource::new(bytes, Vec::new(alloc), 1);
     let mut sink = MemSink::new(alloc, Vec::new(alloc), 1);
-    let status = dgraph_top(rt, alloc, &words, &mut source, &mut sink, &OpenGate);
+    let mut makers = makers(alloc);
+    let status = dgraph_top(
+        rt,
+        alloc,
+        &words,
+        &mut source,
+        &mut sink,
+        &OpenGate,
+        &mut makers,
+    );
     let ending = ending(alloc, status)?;
     Ok(format!(in alloc; "{ending}, {} bytes", sink.bytes().len())?)
 }

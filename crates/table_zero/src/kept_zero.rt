@@ -1,6 +1,8 @@
 // The state that coordinates all, with what may be asked of it.
 ghost use Rattle.std.specs.Prelude.{◌≡◌, ◌≢◌, ℕ, ◌≤◌, [], IsTrue, IfOk};
 ghost use Rattle.std.specs.List.{AllByRecursion};
+ghost use Rattle.dg_values.specs.Ascending.{Ascends};
+ghost use Rattle.dg_keys.specs.Conflicts.{conflict_cmp};
 ghost use Rattle.dg_edges.specs.Deltas.{IsPlain, AreFitting};
 ghost use Rattle.dg_schema.specs.Definitions.{definition_of};
 ghost use Rattle.dg_zero.specs.Legal.{IsLegal, KeepsKind, kind_rank};
@@ -10,9 +12,11 @@ ghost use Rattle.table_zero.specs.Kept.{ends};
 
 use crate::counted;
 use crate::fault::{Answer, Fault};
-use crate::starts::{Start, drop_ended, drop_start, is_active_of, may_end};
+use crate::starts::{Start, drop_ended, drop_start, is_active, is_active_of, may_end};
 use dg_edges::{are_fitting, is_plain};
 use dg_graph::Change;
+use dg_keys::ConflictKey;
+use dg_oracle::Verdict;
 use dg_schema::{PredDef, Schema};
 use dg_values::{Kind, List, Mem, OutOfMemory, Posting, Str};
 use dg_zero::{Begun, CommitFault, Offer, Slip, ZeroFault, ZeroState};
@@ -145,6 +149,16 @@ impl KeptZero {
     // The offer of changes over the graph at a start.
     pub(crate) fn offer(&self, alloc: Global, start: u64, changes: &[Change]) -> Answer<Offer> {
         offer_from(alloc, &self.zero, self.altered, start, changes)
+    }
+
+    // The verdict on the ascending keys of an active start.
+    pub(crate) fn judge(&self, start: u64, keys: &[ConflictKey]) -> Answer<Verdict>
+        requires { Ascends conflict_cmp keys.now }
+    {
+        if !is_active(self.starts.as_slice(), start) {
+            return Err(Fault::Unfit);
+        }
+        Ok(self.zero.judge(start, keys))
     }
 
     // The objects of a subject at a timestamp, where the schema there is the present one.

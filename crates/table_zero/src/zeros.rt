@@ -200,7 +200,7 @@ fn offered(alloc: Global, kept: &KeptZero, rest: &str) -> Answer<String> {
     offer_text(alloc, &offer)
 }
 
-// The verdict on keys. A bar stands behind each.
+// The verdict on the keys of an active start. A bar stands behind each.
 fn judged(alloc: Global, kept: &KeptZero, rest: &str) -> Answer<String> {
     let (start, rest) = halved(rest);
     let words = words_of(alloc, rest)?;
@@ -211,7 +211,7 @@ fn judged(alloc: Global, kept: &KeptZero, rest: &str) -> Answer<String> {
     if !ascend(keys.as_slice()) {
         return Err(Fault::Unfit);
     }
-    match kept.zero().judge(number(start)?, keys.as_slice()) {
+    match kept.judge(number(start)?, keys.as_slice())? {
         Verdict::Clear => told(alloc, "clear"),
         Verdict::Conflict { at, ts } => Ok(format!(in alloc; "place {at} at {ts}")?),
     }

@@ -1,6 +1,7 @@
 use Rattle.std.proofs.Common.{◌≡◌, ◌≢◌, true, List, [], Some, sym, subst}
 use Rattle.std.specs.Prelude.{◌==◌, position, slice_get, IfSome, Option}
 use Rattle.dg_zero.specs.Counters.{active, is_active_of}
+use Rattle.dg_zero.proofs.Committing.{active_from}
 use Rattle.dg_node.specs.declared.engine.Opened.{Opened}
 use Rattle.dg_node.specs.Kept.{Held, IsKept}
 use Rattle.dg_node.proofs.Standing.{Stands, StandFor}
@@ -31,6 +32,14 @@ offer_at-requires-clause-some c =
     let some : a.it.own ≢ [] = subst (λ (x : Option Opened). IfSome x (λ (o : Opened). o.own ≢ [])) (get_is (λ (o : Opened). o.sid) c.args.sid os c.args.place a) asked in
     let it : c.index.result.now ≡ a.it = it_is (λ (o : Opened). o.sid) c.args.sid os c.args.place a c.index.result.now c.index.ensures in
     subst (λ (o : Opened). o.own ≢ []) (sym it) some
+
+pub clash_text-requires-clause-active : goal.clash_text-requires-clause-active
+clash_text-requires-clause-active c =
+    let z = c.self.inside.zero in
+    let os = c.self.inside.sessions.items in
+    let at : position (λ (o : Opened). o.sid == c.args.sid) os ≡ Some c.args.place = subst (λ (h : Held). position (λ (o : Opened). o.sid == c.args.sid) h.opened ≡ Some c.args.place) (sym c.self.view_is) c.requires.at in
+    let a = around (λ (o : Opened). o.sid) c.args.sid os c.args.place at in
+    active_from (active z.history) c.in_ok-offer.offer.start c.in_ok-slip.slip (offer_active z os c.self.invariant c.args.sid c.args.place a c.index.result.now c.index.ensures c.in_ok-offer.offer c.in_ok-offer.ensures c.in_ok-slip.slip c.in_ok-slip.ensures)
 
 pub commit-requires-clause-active : goal.commit-requires-clause-active
 commit-requires-clause-active c =

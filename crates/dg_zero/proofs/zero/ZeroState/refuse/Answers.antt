@@ -2,7 +2,10 @@ use Rattle.std.proofs.Common.{◌≡◌, ◌<◌, ◌∙◌, length, List, ap, g
 use Rattle.std.specs.Arc.{arc_value}
 use Rattle.dg_keys.specs.declared.conflict.ConflictKey.{ConflictKey}
 use Rattle.dg_zero.specs.Pasts.{entries}
-use Rattle.dg_zero.specs.States.{Zero}
+use Rattle.dg_zero.specs.declared.chain.Refusal.{Refusal}
+use Rattle.dg_zero.specs.declared.entry.Event.TheVariants.{Refused}
+use Rattle.dg_zero.specs.States.{Zero, and_entry}
+use Rattle.dg_zero.proofs.Kept.{look_keeps}
 use Rattle.dg_zero.proofs.Committing.{place_within, refused}
 use Rattle.dg_zero.proofs.zero.ZeroState.refuse.Goals as goal
 
@@ -19,12 +22,18 @@ swap_remove-requires c =
     omega (arith, c.args.copied.ok)
 
 pub invariant_of-self : goal.invariant_of-self
-invariant_of-self c = rw c.end.ensures.ended (refused c.self.inside.groups c.self.inside.oracle c.self.inside.next_uid (arc_value c.self.inside.schema) c.self.inside.tablets.items (arc_value c.self.inside.owners) (entries c.self.inside.past) c.args.self.now.history (ap (λ (z : Zero). z.history) c.self.view_is) c.args.slip c.args.offer c.self.invariant c.requires.active c.args.at c.args.ts c.swap_remove-key.result c.swap_remove.result _ c.requires.judged (c.swap_remove-key.ensures.value ∙ ap (λ (ks : List ConflictKey). get_or ks c.args.at c.swap_remove-key.result) c.into_vec-keys.ensures) (c.swap_remove.ensures.value ∙ ap (λ (ks : List ConflictKey). get_or ks c.args.at c.swap_remove.result) c.requires.copied) c.append.ensures).0
+invariant_of-self c = rw c.append.ensures (look_keeps c.self.inside.groups c.self.inside.oracle c.self.inside.next_uid (arc_value c.self.inside.schema) c.self.inside.tablets.items (arc_value c.self.inside.owners) (entries c.self.inside.past) c.args.slip c.self.invariant)
+
+pub returns-in_default-clause-legal : goal.returns-in_default-clause-legal
+returns-in_default-clause-legal c = rw c.append.ensures (look_keeps c.self.inside.groups c.self.inside.oracle c.self.inside.next_uid (arc_value c.self.inside.schema) c.self.inside.tablets.items (arc_value c.self.inside.owners) (entries c.self.inside.past) c.args.slip c.self.invariant).legal
+
+pub invariant_of-self-2 : goal.invariant_of-self-2
+invariant_of-self-2 c = rw c.end.ensures.ended (refused c.self.inside.groups c.self.inside.oracle c.self.inside.next_uid (arc_value c.self.inside.schema) c.self.inside.tablets.items (arc_value c.self.inside.owners) (entries c.self.inside.past) c.args.self.now.history (ap (λ (z : Zero). z.history) c.self.view_is) c.args.slip c.args.offer c.self.invariant c.requires.active c.args.at c.args.ts c.swap_remove-key.result c.swap_remove.result _ c.requires.judged (c.swap_remove-key.ensures.value ∙ ap (λ (ks : List ConflictKey). get_or ks c.args.at c.swap_remove-key.result) c.into_vec-keys.ensures) (c.swap_remove.ensures.value ∙ ap (λ (ks : List ConflictKey). get_or ks c.args.at c.swap_remove.result) c.requires.copied) (c.append-2.ensures ∙ ap (λ (r : Refusal). and_entry (entries c.self.inside.past) c.args.slip (Refused r.start r.reason)) c.in-Ok.ensures)).0
 
 pub returns-clause-fault : goal.returns-clause-fault
 returns-clause-fault c =
-    let all = refused c.self.inside.groups c.self.inside.oracle c.self.inside.next_uid (arc_value c.self.inside.schema) c.self.inside.tablets.items (arc_value c.self.inside.owners) (entries c.self.inside.past) c.args.self.now.history (ap (λ (z : Zero). z.history) c.self.view_is) c.args.slip c.args.offer c.self.invariant c.requires.active c.args.at c.args.ts c.swap_remove-key.result c.swap_remove.result _ c.requires.judged (c.swap_remove-key.ensures.value ∙ ap (λ (ks : List ConflictKey). get_or ks c.args.at c.swap_remove-key.result) c.into_vec-keys.ensures) (c.swap_remove.ensures.value ∙ ap (λ (ks : List ConflictKey). get_or ks c.args.at c.swap_remove.result) c.requires.copied) c.append.ensures in
+    let all = refused c.self.inside.groups c.self.inside.oracle c.self.inside.next_uid (arc_value c.self.inside.schema) c.self.inside.tablets.items (arc_value c.self.inside.owners) (entries c.self.inside.past) c.args.self.now.history (ap (λ (z : Zero). z.history) c.self.view_is) c.args.slip c.args.offer c.self.invariant c.requires.active c.args.at c.args.ts c.swap_remove-key.result c.swap_remove.result _ c.requires.judged (c.swap_remove-key.ensures.value ∙ ap (λ (ks : List ConflictKey). get_or ks c.args.at c.swap_remove-key.result) c.into_vec-keys.ensures) (c.swap_remove.ensures.value ∙ ap (λ (ks : List ConflictKey). get_or ks c.args.at c.swap_remove.result) c.requires.copied) (c.append-2.ensures ∙ ap (λ (r : Refusal). and_entry (entries c.self.inside.past) c.args.slip (Refused r.start r.reason)) c.in-Ok.ensures) in
     (all.1, λ i. record { groups = (c.self.view_is i).groups; history = all.2 i })
 
 pub returns-clause-legal : goal.returns-clause-legal
-returns-clause-legal c = (refused c.self.inside.groups c.self.inside.oracle c.self.inside.next_uid (arc_value c.self.inside.schema) c.self.inside.tablets.items (arc_value c.self.inside.owners) (entries c.self.inside.past) c.args.self.now.history (ap (λ (z : Zero). z.history) c.self.view_is) c.args.slip c.args.offer c.self.invariant c.requires.active c.args.at c.args.ts c.swap_remove-key.result c.swap_remove.result _ c.requires.judged (c.swap_remove-key.ensures.value ∙ ap (λ (ks : List ConflictKey). get_or ks c.args.at c.swap_remove-key.result) c.into_vec-keys.ensures) (c.swap_remove.ensures.value ∙ ap (λ (ks : List ConflictKey). get_or ks c.args.at c.swap_remove.result) c.requires.copied) c.append.ensures).0.legal
+returns-clause-legal c = (refused c.self.inside.groups c.self.inside.oracle c.self.inside.next_uid (arc_value c.self.inside.schema) c.self.inside.tablets.items (arc_value c.self.inside.owners) (entries c.self.inside.past) c.args.self.now.history (ap (λ (z : Zero). z.history) c.self.view_is) c.args.slip c.args.offer c.self.invariant c.requires.active c.args.at c.args.ts c.swap_remove-key.result c.swap_remove.result _ c.requires.judged (c.swap_remove-key.ensures.value ∙ ap (λ (ks : List ConflictKey). get_or ks c.args.at c.swap_remove-key.result) c.into_vec-keys.ensures) (c.swap_remove.ensures.value ∙ ap (λ (ks : List ConflictKey). get_or ks c.args.at c.swap_remove.result) c.requires.copied) (c.append-2.ensures ∙ ap (λ (r : Refusal). and_entry (entries c.self.inside.past) c.args.slip (Refused r.start r.reason)) c.in-Ok.ensures)).0.legal

@@ -1,6 +1,7 @@
 use Rattle.std.proofs.Common.{map, ap, sym, subst, ◌∙◌}
 use Rattle.std.specs.List.{AllByRecursion}
 use Rattle.dg_zero.specs.Pasts.{entries}
+use Rattle.dg_zero.specs.Recorded.{told}
 use Rattle.dg_zero.specs.States.{Zero}
 use Rattle.dg_zero.specs.Seen.{HasDistinct, events_upto}
 use Rattle.dg_zero.proofs.SeenEvents.{seen_world, events_distinct}
@@ -12,4 +13,4 @@ invariant_of-result c =
 
 pub returns : goal.returns
 returns c =
-    seen_world c.args.self.now.history c.args.at c.args.schema.now (map (λ e. e.now) c.in_ok-events.events.items) c.requires.schema (c.in_ok-events.ensures ∙ ap (λ (z : Zero). events_upto z.history c.args.at) c.self.view_is)
+    seen_world c.args.self.now.history c.args.at c.args.schema.now (map told c.in_ok-events.events.items) c.requires.schema (c.in_ok-events.ensures ∙ ap (λ (z : Zero). events_upto z.history c.args.at) c.self.view_is)

@@ -1,0 +1,3 @@
+-- Lemmas on what stands beside a state of Zero.
+mod Mirroring
+mod Bare

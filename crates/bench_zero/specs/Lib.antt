@@ -1,0 +1,2 @@
+-- What stands beside a state of Zero.
+pub mod Mirrors
