@@ -1,0 +1,5 @@
+-- Graphs that are read from pins, and transactions' own changes on top of them.
+pub mod Pins
+pub mod Own
+pub mod Gains
+pub mod Laws

@@ -1,0 +1,203 @@
+// What lists gain and lose by the changes of a transaction, by key.
+ghost use Rattle.std.specs.Prelude.{[], ◌≡◌, ◌+◌, ◌<◌, ◌++◌, IfOk, OnOk, length, map, take};
+ghost use Rattle.std.specs.Arc.{arc_value};
+ghost use Rattle.dg_values.specs.Ascending.{Ascends};
+ghost use Rattle.dg_delta.specs.Ops.{op_cmp};
+ghost use Rattle.dg_graph.specs.Graphs.{IsLawful};
+ghost use Rattle.dg_keys.specs.Keys.{ops_at, AreParts};
+ghost use Rattle.dg_pages.specs.Entries.{change_of, changes_of, entries_of};
+ghost use Rattle.dg_zero.specs.Listings.{listing};
+ghost use Rattle.dg_txn.specs.Gains.{parts_from, renewed, change_by, parts_after};
+ghost use Rattle.dg_pages.specs.Paged.{joined};
+
+use crate::Present;
+use dg_delta::{Op, apply};
+use dg_edges::between;
+use dg_keys::{Key, Part};
+use dg_pages::Pages;
+use dg_values::{List, Mem, OutOfMemory, Steps};
+use std::alloc::Global;
+use std::marker::Model;
+use std::sync::Arc;
+use std::sync::ledger::Ledger;
+
+// The operations on each list that changes change. Contracts see them as parts.
+#[derive(Drop)]
+pub struct Gains {
+    lists: Pages<Key, List<Op>>,
+}
+
+impl Model for Gains {
+    ghost use Rattle.std.specs.Prelude.{List as Items};
+    ghost use Rattle.dg_keys.specs.declared.record.Part.{Part};
+    ghost use Rattle.dg_keys.specs.Keys.{AreParts};
+    ghost use Rattle.dg_pages.specs.Paged.{joined};
+    ghost use Rattle.dg_txn.specs.Gains.{parts_from};
+
+    ghost Value = { Items Part };
+
+    ghost view = { λ g. parts_from (joined g.lists) };
+
+    ghost invariant = { λ g. AreParts (parts_from (joined g.lists)) };
+}
+
+impl Gains {
+    // Those of no change.
+    pub fn none(alloc: Global) -> Mem<Gains>
+        ensures { IfOk result (λ g. g ≡ []) }
+    {
+        Ok(Gains {
+            lists: Pages::new(alloc)?,
+        })
+    }
+
+    // The operations on the list of a key.
+    pub fn ops_at(&self, key: &Key) -> &[Op]
+        ensures ops { result.now ≡ ops_at self.now key.now }
+        ensures ascend { Ascends op_cmp result.now }
+    {
+        match self.lists.get(key) {
+            Some(ops) => ops.as_slice(),
+            None => &[],
+        }
+    }
+
+    // The parts, copied.
+    pub fn parts(&self, alloc: Global) -> Mem<Vec<Part>>
+        ensures { IfOk result (λ v. v.items ≡ self.now) }
+    {
+        let lists = &self.lists;
+        let mut parts = Vec::new(alloc);
+        for at in 0..lists.pages() {
+            push_page_at(alloc, &mut parts, lists, at)?;
+        }
+        parts.shrink_to_fit();
+        Ok(parts)
+    }
+
+    // The operations on the list of a part's key, after a step that is the part.
+    fn renewed<L: Ledger>(
+        &self,
+        alloc: Global,
+        base: &Present,
+        part: &Part,
+        reads: &mut Steps<L>,
+    ) -> Mem<Vec<Op>>
+        requires ascend { Ascends op_cmp part.now.ops }
+        ensures { IfOk result (λ v. v.items ≡ renewed (listing base.now.schema base.now.graph part.now.key) (ops_at self.now part.now.key) part.now.ops) }
+    {
+        let own = self.ops_at(&part.key);
+        if own.is_empty() {
+            return op_copies(alloc, part.ops.as_slice());
+        }
+        let start = base.read(alloc, &part.key, reads)?;
+        let before = apply(alloc, start.as_slice(), own)?;
+        let after = apply(alloc, before.as_slice(), part.ops.as_slice())?;
+        between(alloc, start.as_slice(), after.as_slice())
+    }
+
+    // The change of the operations by a step that is the part. A list that is as at the start has none.
+    fn change<L: Ledger>(
+        &self,
+        alloc: Global,
+        base: &Present,
+        part: &Part,
+        reads: &mut Steps<L>,
+    ) -> Mem<(Arc<Key>, Option<Arc<List<Op>>>)>
+        requires ascend { Ascends op_cmp part.now.ops }
+        ensures { IfOk result (λ c. change_of c ≡ change_by (listing base.now.schema base.now.graph) self.now part.now) }
+    {
+        let key = Arc::new(alloc, part.key.copy(alloc)?)?;
+        let ops = self.renewed(alloc, base, part, reads)?;
+        if ops.is_empty() {
+            return Ok((key, None));
+        }
+        Ok((key, Some(Arc::new(alloc, List::from_vec(ops))?)))
+    }
+
+    // The changes by each part.
+    fn changes<L: Ledger>(
+        &self,
+        alloc: Global,
+        base: &Present,
+        step: &[Part],
+        reads: &mut Steps<L>,
+    ) -> Mem<Vec<(Arc<Key>, Option<Arc<List<Op>>>)>>
+        requires step { AreParts step.now }
+        ensures { IfOk result (λ v. changes_of v.items ≡ map (change_by (listing base.now.schema base.now.graph) self.now) step.now) }
+    {
+        let mut changes = Vec::with_capacity(alloc, step.len())?;
+        for part in step {
+            changes.push(self.change(alloc, base, part, reads)?)?;
+        }
+        Ok(changes)
+    }
+
+    // What lists gain and lose from the start by these and by a further step. A list that has operations already is read at
+    // the start once more. These stay as they are.
+    pub fn after<L: Ledger>(
+        &self,
+        alloc: Global,
+        base: &Present,
+        step: &[Part],
+        reads: &mut Steps<L>,
+    ) -> Mem<Gains>
+        requires lawful { IsLawful base.now.schema base.now.graph }
+        requires step { AreParts step.now }
+        ensures { IfOk result (λ g. g ≡ parts_after (listing base.now.schema base.now.graph) self.now step.now) }
+    {
+        let changes = self.changes(alloc, base, step, reads)?;
+        Ok(Gains {
+            lists: self.lists.with_changes(alloc, changes)?,
+        })
+    }
+}
+
+// An equal part.
+fn part_copy(alloc: Global, key: &Key, ops: &List<Op>) -> Mem<Part>
+    ensures { IfOk result (λ part. part ≡ record { key = key.now; ops = ops.now }) }
+{
+    let ops = op_copies(alloc, ops.as_slice())?;
+    Ok(Part {
+        key: key.copy(alloc)?,
+        ops: List::from_vec(ops),
+    })
+}
+
+// Adds the parts of the page at a place behind those of the pages before it.
+fn push_page_at(
+    alloc: Global,
+    parts: &mut Vec<Part>,
+    lists: &Pages<Key, List<Op>>,
+    at: usize,
+) -> Mem<()>
+    requires there { at < length lists.now }
+    requires before { parts.old.items ≡ parts_from (joined (take at lists.now)) }
+    ensures { OnOk result (parts.new.items ≡ parts_from (joined (take (at + 1) lists.now))) }
+{
+    match lists.page(at) {
+        Some(page) => push_page(alloc, parts, page),
+        None => unreachable!(),
+    }
+}
+
+// Adds the parts of a page behind others.
+fn push_page(alloc: Global, parts: &mut Vec<Part>, page: &[(Arc<Key>, Arc<List<Op>>)]) -> Mem<()>
+    ensures { OnOk result (parts.new.items ≡ parts.old.items ++ parts_from (entries_of page.now)) }
+{
+    for (key, ops) in page {
+        parts.push(part_copy(alloc, key, ops)?)?;
+    }
+    Ok(())
+}
+
+// Equal operations.
+fn op_copies(alloc: Global, ops: &[Op]) -> Mem<Vec<Op>>
+    ensures { IfOk result (λ v. v.items ≡ ops.now) }
+{
+    let mut copies = Vec::with_capacity(alloc, ops.len())?;
+    for op in ops {
+        copies.push(op.copy(alloc)?)?;
+    }
+    Ok(copies)
+}

@@ -1,0 +1,15 @@
+// What holds of pins and of own changes.
+ghost use Rattle.dg_txn.specs.Laws.{PinsRead, PinsHaveOne, OwnRead, BegunPinsHold};
+
+/// Pins have one graph, and what is read from them is what keys list there. Own changes are read as what lists gain and
+/// lose by them.
+pub fn pinned_graphs()
+    ensures read { PinsRead }
+    ensures one { PinsHaveOne }
+    ensures own { OwnRead }
+{}
+
+/// The pins of groups that are up to date with a history hold the graph at a start that is drawn then.
+pub fn begun_pins()
+    ensures { BegunPinsHold }
+{}

@@ -1,0 +1,17 @@
+//! Transactions: a graph that is read from pins, and own changes on top of it.
+//!
+//! A transaction holds its start, the schema and the owners there and a pin of each group, so nothing that is committed, merged
+//! or moved afterwards changes what it reads. Its own changes are kept in their order, and also as what each list gains
+//! and loses by them, so a read costs by the operations on its own list.
+#![tactic(auto)]
+
+mod gains;
+mod laws;
+mod offer;
+mod present;
+mod reads;
+mod txn;
+
+pub use laws::{begun_pins, pinned_graphs};
+pub use present::Present;
+pub use txn::Txn;

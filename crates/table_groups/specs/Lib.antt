@@ -1,0 +1,3 @@
+-- Groups beside the state that coordinates them, and open transactions.
+pub mod Owning
+pub mod Opened

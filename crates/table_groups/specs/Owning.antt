@@ -1,0 +1,23 @@
+-- Groups beside the state that coordinates them.
+use Rattle.std.specs.Prelude.{◌≡◌, ℕ, ◌≤◌, List, [], map}
+use Rattle.std.specs.List.{AllByRecursion}
+use Rattle.dg_edges.specs.Deltas.{IsPlain}
+use Rattle.dg_zero.specs.Legal.{IsLegal}
+use Rattle.dg_zero.specs.Places.{groups}
+use Rattle.dg_zero.specs.States.{Zero}
+use Rattle.dg_zero.specs.Worlds.{schema_at}
+use Rattle.dg_group.specs.Groups.{Group}
+use Rattle.dg_group.specs.Stands.{IsInStep}
+
+-- a group that has applied nothing
+abbrev pub new_group : ℕ → Group
+new_group number = record { number = number; last = 0; copies = [] }
+
+-- the history is legal, no definition at any timestamp has index, reverse or count, and the groups have the numbers from 1 to n
+-- and are in step with the history
+pub record IsOwned (zero : Zero) (gs : List Group) : Type 0 where
+  pub least : 1 ≤ zero.groups
+  pub legal : IsLegal zero.groups zero.history
+  pub plain : (at : ℕ) → IsPlain (schema_at zero.history at)
+  pub numbers : map (λ (g : Group). g.number) gs ≡ groups zero.groups
+  pub in_step : AllByRecursion (λ g. IsInStep g zero.history) gs
