@@ -1,4 +1,4 @@
-//! Prints what checking queries costs, for queries of four forms and three sizes.
+//! Prints what checking queries costs, for queries of five forms and three sizes.
 //! With the word `time` it prints nanoseconds a part, and the exponent by which the time grows with the number of parts, in
 //! hundredths; without it, what is wrong with small ones.
 #![tactic(auto)]
@@ -24,7 +24,13 @@ const TURNS: u32 = 5;
 fn main(rt: HostRuntime) -> Result<()> {
     let timed = env::args(&rt)?.skip(1).any(|word| word.as_str() == "time");
     let schema = declared(rt.alloc());
-    for form in [Form::Chain, Form::Back, Form::Cycle, Form::Literals] {
+    for form in [
+        Form::Chain,
+        Form::Back,
+        Form::Cycle,
+        Form::Behind,
+        Form::Literals,
+    ] {
         if timed {
             print_times(&rt, rt.alloc(), &schema, form)?;
         } else {

@@ -16,6 +16,8 @@ pub enum Form {
     Back,
     /// A chain whose first block uses the variable of the last.
     Cycle,
+    /// A chain before two blocks that use one another's variables, whose names come last.
+    Behind,
     /// Literals of one function.
     Literals,
 }
@@ -27,6 +29,7 @@ impl Form {
             Form::Chain => "chain",
             Form::Back => "back",
             Form::Cycle => "cycle",
+            Form::Behind => "behind",
             Form::Literals => "literals",
         }
     }
@@ -34,7 +37,7 @@ impl Form {
     /// How many parts the largest query has.
     pub fn most(self) -> u32 {
         match self {
-            Form::Chain | Form::Back | Form::Cycle => 20_000,
+            Form::Chain | Form::Back | Form::Cycle | Form::Behind => 20_000,
             Form::Literals => 100_000,
         }
     }
@@ -44,6 +47,10 @@ impl Form {
         match self {
             Form::Chain => ("{ x0 as b0(func: uid(0x1)) { uid }", " }"),
             Form::Back | Form::Cycle => ("{", " }"),
+            Form::Behind => (
+                "{ x0 as b0(func: uid(0x1)) { uid }",
+                " y as c(func: uid(z)) { uid } z as d(func: uid(y)) { uid } }",
+            ),
             Form::Literals => ("{ q(func: eq(age, 0", ")) { uid } }"),
         }
     }
@@ -77,7 +84,7 @@ fn longer(text: String, more: &str) -> Result<String>
 // A part of so many.
 fn part(alloc: Global, form: Form, number: u32, count: u32) -> Result<String> {
     match form {
-        Form::Chain => block(alloc, number, number.saturating_sub(1)),
+        Form::Chain | Form::Behind => block(alloc, number, number.saturating_sub(1)),
         Form::Back => back_block(alloc, number, count),
         Form::Cycle => cycle_block(alloc, number, count),
         Form::Literals => Ok(format!(in alloc; ", {number}")?),

@@ -8,5 +8,7 @@ pub mod RunOrder
 pub mod Faults
 pub mod Patterns
 pub mod Plans
+pub mod Parts
 pub mod Outcomes
 pub mod Search
+pub mod Numbers

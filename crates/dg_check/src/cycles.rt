@@ -1,19 +1,22 @@
 // Which variables are used in a block on which their own block depends: none where all blocks can run, and else by going
-// from the blocks that define one to all that these lead to.
+// from the blocks that define one to all that these lead to. Only of suspects that is asked.
 ghost use Rattle.std.specs.Prelude.{◌≡◌, IfOk, find, flat_map};
 ghost use Rattle.std.specs.List.{list_any};
 ghost use Rattle.dg_values.specs.Ascending.{ascending};
 ghost use Rattle.dg_values.specs.Order.{text_cmp};
 ghost use Rattle.dg_check.specs.Cycles.{is_place_in, uses_of, uses_at, uses_name_at, is_reached, with_used, definers, depended_on, is_circular, least_circular};
 ghost use Rattle.dg_check.specs.RunOrder.{dependencies};
+ghost use Rattle.dg_check.specs.Numbers.{is_suspect, AreSuspects};
 ghost use Rattle.dg_check.specs.Faults.{cycle};
 
 use crate::CheckFault;
 use crate::blocks::BlockNames;
+use crate::names::Names;
 use crate::needs::dependencies;
 use crate::order::can_all_run;
 use crate::ran::Ran;
 use crate::search::{add_led, add_new};
+use crate::suspects::suspects_of;
 use dg_sets::in_order;
 use dg_values::{List, Mem, OutOfMemory, Str};
 use std::alloc::Global;
@@ -137,18 +140,49 @@ fn is_circular(
     is_circular_by_turns(alloc, blocks, name)
 }
 
+// Whether a name is one of the suspects; where there are none it may be any.
+fn is_suspect(suspects: &Option<Names<'_>>, name: &str) -> bool
+    ensures { result ≡ is_suspect suspects.now name.now }
+{
+    match suspects {
+        None => true,
+        Some(names) => names.has(name),
+    }
+}
+
+// Whether a variable is circular; one that isn't a suspect is not.
+#[tactic(auto, using(crate::proofs::SuspectLaws::not_suspect))]
+fn is_suspect_circular(
+    alloc: Global,
+    blocks: &[BlockNames<'_>],
+    deps: &[List<usize>],
+    suspects: &Option<Names<'_>>,
+    name: &str,
+) -> Mem<bool>
+    requires same { deps.now ≡ dependencies blocks.now }
+    requires all { AreSuspects blocks.now suspects.now }
+    ensures { IfOk result (λ b. b ≡ is_circular blocks.now name.now) }
+{
+    if !is_suspect(suspects, name) {
+        return Ok(false);
+    }
+    is_circular(alloc, blocks, deps, name)
+}
+
 // The first of these names that is circular.
 fn first_circular(
     alloc: Global,
     blocks: &[BlockNames<'_>],
     deps: &[List<usize>],
+    suspects: &Option<Names<'_>>,
     names: &[Str],
 ) -> Mem<Option<Str>>
-    requires { deps.now ≡ dependencies blocks.now }
+    requires same { deps.now ≡ dependencies blocks.now }
+    requires all { AreSuspects blocks.now suspects.now }
     ensures { IfOk result (λ found. found ≡ find (is_circular blocks.now) names.now) }
 {
     for name in names {
-        if is_circular(alloc, blocks, deps, name.as_str())? {
+        if is_suspect_circular(alloc, blocks, deps, suspects, name.as_str())? {
             return Ok(Some(name.copy(alloc)?));
         }
     }
@@ -171,8 +205,9 @@ fn least_circular(alloc: Global, blocks: &[BlockNames<'_>]) -> Mem<Option<Str>>
     ensures { IfOk result (λ found. found ≡ least_circular blocks.now) }
 {
     let deps = dependencies(alloc, blocks)?;
+    let suspects = suspects_of(alloc, blocks, deps.as_slice())?;
     let names = names_in_order(alloc, blocks)?;
-    first_circular(alloc, blocks, deps.as_slice(), names.as_slice())
+    first_circular(alloc, blocks, deps.as_slice(), &suspects, names.as_slice())
 }
 
 /// The fault of the least circular variable, where there is one. Where all blocks can run there is none.

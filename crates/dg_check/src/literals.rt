@@ -38,6 +38,7 @@ impl<'a> Variables<'a> {
     ghost use Rattle.std.specs.Prelude.{◌≡◌, IfOk};
     ghost use Rattle.dg_check.specs.Variables.{definitions_met, content_named};
     ghost use Rattle.dg_check.specs.Faults.{kind_named};
+    ghost use Rattle.dg_check.specs.Plans.{place_of};
 
     /// The variables of these definitions.
     pub fn of(alloc: Global, definitions: Vec<Definition<'a>>) -> Mem<Variables<'a>>
@@ -45,6 +46,13 @@ impl<'a> Variables<'a> {
     {
         let names = all_names(alloc, definitions.as_slice())?;
         Ok(Variables { definitions, names })
+    }
+
+    /// The place of the first variable of a name, or how many there are. It looks by halves.
+    pub fn place(&self, name: &str) -> usize
+        ensures { result ≡ place_of self.now name.now }
+    {
+        self.names.place(name)
     }
 
     // What the first variable of a name has. It looks by halves.

@@ -71,8 +71,11 @@ fn add_block<'a>(
     Ok(())
 }
 
-// The blocks that define each name.
-fn all_definers<'a>(alloc: Global, blocks: &[BlockNames<'a>]) -> Mem<BTreeMap<&'a str, List<usize>>>
+/// The blocks that define each name.
+pub fn all_definers<'a>(
+    alloc: Global,
+    blocks: &[BlockNames<'a>],
+) -> Mem<BTreeMap<&'a str, List<usize>>>
     ensures { IfOk result (λ under. (x : Items ℕ) → blocks_under under x ≡ definers blocks.now x) }
 {
     let mut under = BTreeMap::new(alloc);
@@ -82,8 +85,8 @@ fn all_definers<'a>(alloc: Global, blocks: &[BlockNames<'a>]) -> Mem<BTreeMap<&'
     Ok(under)
 }
 
-// The blocks under a name.
-fn blocks_under<'m>(under: &'m BTreeMap<&str, List<usize>>, name: &str) -> &'m [usize]
+/// The blocks under a name.
+pub fn blocks_under<'m>(under: &'m BTreeMap<&str, List<usize>>, name: &str) -> &'m [usize]
     ensures { result.now ≡ blocks_under under.now name.now }
 {
     match under.get(name) {

@@ -8,6 +8,7 @@ ghost use Rattle.dg_check.specs.RunOrder.{dependencies, first_ready, run_more, r
 use crate::blocks::{BlockNames, names_of_blocks};
 use crate::needs::dependencies;
 use crate::ran::Ran;
+use crate::users::{users_at, users_of};
 use dg_parse::Query;
 use dg_values::{List, Mem, OutOfMemory};
 use std::alloc::Global;
@@ -42,34 +43,6 @@ fn run_if_ready(deps: &[List<usize>], ran: &mut Ran, at: usize) -> Mem<()>
 }
 
 // The functions from here to `run_free` decide only which blocks are tried, and when: whether one runs, `run_if_ready` tests.
-
-// Adds a block to the users of each block that it needs.
-fn add_user(users: &mut [Vec<usize>], needs: &[usize], at: usize) -> Mem<()> {
-    for need in needs {
-        if let Some(known) = users.get_mut(*need) {
-            known.push(at)?;
-        }
-    }
-    Ok(())
-}
-
-// So many empty lists.
-fn empty_lists(alloc: Global, count: usize) -> Mem<Vec<Vec<usize>>> {
-    let mut lists = Vec::new(alloc);
-    for _list in 0..count {
-        lists.push(Vec::new(alloc))?;
-    }
-    Ok(lists)
-}
-
-// For each block those that need it, each as often as it does.
-fn users_of(alloc: Global, deps: &[List<usize>]) -> Mem<Vec<Vec<usize>>> {
-    let mut users = empty_lists(alloc, deps.len())?;
-    for (at, needs) in deps.iter().enumerate() {
-        add_user(users.as_mut_slice(), needs.as_slice(), at)?;
-    }
-    Ok(users)
-}
 
 // For each block how many needs it has.
 fn counts_of(alloc: Global, deps: &[List<usize>]) -> Mem<Vec<usize>>
@@ -112,14 +85,6 @@ fn release(users: &[usize], counts: &mut [usize], free: &mut BTreeSet<usize>) ->
         }
     }
     Ok(())
-}
-
-// The users of the block at a place.
-fn users_at(users: &[Vec<usize>], at: usize) -> &[usize] {
-    match users.get(at) {
-        None => &[],
-        Some(known) => known.as_slice(),
-    }
 }
 
 // Lets the first free block run, again and again, and counts for its users one need less. So a need is met once, and no

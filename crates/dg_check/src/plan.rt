@@ -1,22 +1,17 @@
 // A checked query, with what is read of it.
+use crate::parts::{Func, OrderKey, Parts};
 use dg_parse::{Query, UMut};
-use dg_values::{Kind, List, Value};
-use regex::Regex;
+use dg_values::{List, Str};
 
-/// What is read of a function of a query.
+/// What is read at a place of a query.
 #[derive(Drop)]
 pub enum Read {
-    /// Nothing: it has neither literals nor a pattern.
-    Nothing,
-    /// Its literals.
-    Values {
-        /// The kind of what is compared. Without one nothing is: the predicate isn't declared, and no value is kept.
-        kind: Option<Kind>,
-        /// The values that the literals read as, in their order.
-        values: List<Value>,
-    },
-    /// Its pattern, as the maker built it.
-    Pattern(Regex),
+    /// A function.
+    Func(Func),
+    /// The order keys among the arguments of a list.
+    Orders(List<OrderKey>),
+    /// The place of a variable that is defined, shown or aggregated.
+    Val(usize),
 }
 
 /// A checked query, ready to run.
@@ -26,9 +21,10 @@ pub struct Plan {
     pub query: Query,
     /// The places of its blocks, each once and behind those whose variables it uses.
     pub order: List<usize>,
-    /// What is read of its functions, one for each in the order of the text: block by block the root, then the functions of
-    /// its filters and those of its fields.
-    pub read: List<Read>,
+    /// The names of its variables, in the order in which the text defines them.
+    pub vars: List<Str>,
+    /// What is kept of each block, in the order of the text.
+    pub parts: List<Parts>,
 }
 
 /// The mutations of a checked upsert block.

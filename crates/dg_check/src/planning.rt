@@ -1,16 +1,19 @@
 // The checks of a query, of which reading its literals and building its patterns is one, and the plan of what passes them.
-ghost use Rattle.std.specs.Prelude.{◌≡◌, ℕ, [], true, None, IfOk, IfErr, IsOk};
+ghost use Rattle.std.specs.Prelude.{◌≡◌, ℕ, List as Items, [], true, false, None, flat_map, IfOk, IfErr, IsOk};
 ghost use Rattle.std.specs.Option.{option_or};
-ghost use Rattle.dg_check.specs.Places.{places_met};
-ghost use Rattle.dg_check.specs.Variables.{definitions_in, uses_met};
+ghost use Rattle.dg_schema.specs.declared.definition.PredDef.{PredDef};
+ghost use Rattle.dg_check.specs.Places.{places_met, places_of_query};
+ghost use Rattle.dg_check.specs.Variables.{Definition, definitions_in, names_for, uses_met};
 ghost use Rattle.dg_check.specs.Blocks.{names_of_blocks};
 ghost use Rattle.dg_check.specs.Cycles.{is_place_in};
 ghost use Rattle.dg_check.specs.RunOrder.{are_ready, dependencies, order_of};
 ghost use Rattle.dg_check.specs.Faults.{first_of, not_indexed_at, cycle, fault_of_pages, fault_of_literals, fault_behind, fault_among, fault_of, fault_of_upsert};
 ghost use Rattle.dg_check.specs.Patterns.{IsFrontOf};
+ghost use Rattle.dg_check.specs.Parts.{Takes, asked_of_block, AreBlocksOf};
 ghost use Rattle.dg_check.specs.Outcomes.{fault_before, unless, IsOutcome, IsQueryOutcome, IsUpsertOutcome, IsPlanOf, IsFaultOf, IsFaultOfUpsert};
 
 use crate::blocks::{BlockNames, names_of_blocks};
+use crate::building::parts_of;
 use crate::checking::{fault_of_pages, fault_of_variables, uses_of_upsert};
 use crate::cycles::cycle;
 use crate::finding::first_found;
@@ -18,13 +21,14 @@ use crate::indexes::Indexed;
 use crate::literals::{Literals, Variables};
 use crate::order::order_of;
 use crate::places::{Place, places_of};
+use crate::plan::Read;
 use crate::reading::read_places;
 use crate::uses::{Use, uses_of_places};
-use crate::variables::definitions_of;
-use crate::{Blocks, CheckFault, Patterns, Plan, Read};
+use crate::variables::{copied_names, definitions_of};
+use crate::{Blocks, CheckFault, Patterns, Plan};
 use dg_parse::{Query, Upsert};
 use dg_schema::Schema;
-use dg_values::{List, Mem, OutOfMemory};
+use dg_values::{List, Mem, OutOfMemory, Str};
 use std::alloc::Global;
 
 // What was read, unless an argument can't stand where it does or a depth isn't 1 to 32.
@@ -41,7 +45,7 @@ fn read_pages(
     }
 }
 
-// What is read of functions, or what the checks of literals, arguments and depths find.
+// What is read at places, or what the checks of literals, arguments and depths find.
 #[tactic(auto, using(crate::proofs::PlanLaws::before_pages, crate::proofs::PlanLaws::with_pages))]
 fn read_literals<P: Patterns>(
     alloc: Global,
@@ -95,7 +99,7 @@ fn read_acyclic<'a, P: Patterns>(
     }
 }
 
-// What all checks find, or what is read of functions, given the parts of a query or an upsert block.
+// What all checks find, or what is read, given the parts of a query or an upsert block.
 fn read_checked<'a, P: Patterns>(
     alloc: Global,
     schema: &'a Schema,
@@ -163,15 +167,34 @@ fn read_upsert<P: Patterns>(
     )
 }
 
+// The names of a query's variables, in the order in which the text defines them. What these have isn't asked, so no schema is
+// needed.
+fn variables_of(alloc: Global, query: &Query) -> Mem<List<Str>>
+    ensures { IfOk result (λ vars. vars ≡ names_for false (definitions_in [] (places_of_query query.now))) }
+{
+    let schema = Schema::new(alloc);
+    let places = places_of(alloc, query)?;
+    let definitions = definitions_of(alloc, &schema, places.as_slice())?;
+    copied_names(alloc, definitions.as_slice())
+}
+
 // The plan of a query, of which this was read.
 fn plan_of(alloc: Global, query: Query, read: List<Read>) -> Mem<Plan>
     ensures same { IfOk result (λ plan. plan.query ≡ query) }
-    ensures read { IfOk result (λ plan. plan.read ≡ read) }
+    ensures vars { IfOk result (λ plan. plan.vars ≡ names_for false (definitions_in [] (places_of_query query))) }
+    ensures parts { (schema : Items PredDef) (ds : Items Definition) → Takes schema ds (flat_map asked_of_block query.blocks) read [] → IfOk result (λ plan. AreBlocksOf schema ds query.blocks plan.parts) }
     ensures ready { IfOk result (λ plan. are_ready (dependencies (names_of_blocks query.blocks)) [] plan.order ≡ true) }
     ensures there { IfOk result (λ plan. (at : ℕ) → is_place_in plan.order at ≡ is_place_in (order_of query) at) }
 {
     let order = List::from_vec(order_of(alloc, &query)?);
-    Ok(Plan { query, order, read })
+    let vars = variables_of(alloc, &query)?;
+    let parts = parts_of(alloc, query.blocks.as_slice(), read)?;
+    Ok(Plan {
+        query,
+        order,
+        vars,
+        parts,
+    })
 }
 
 /// The plan of a query under a schema.

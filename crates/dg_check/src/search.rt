@@ -25,8 +25,8 @@ pub fn add_new(found: &mut Ran, places: &[usize]) -> Mem<()>
     Ok(())
 }
 
-// What the block at a place needs.
-fn needs_at(deps: &[List<usize>], at: usize) -> &[usize]
+/// What the block at a place needs.
+pub fn needs_at(deps: &[List<usize>], at: usize) -> &[usize]
     ensures { result.now ≡ needs_in (slice_get deps.now at) }
 {
     match deps.get(at) {

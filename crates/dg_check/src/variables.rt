@@ -10,7 +10,7 @@ use crate::places::{Place, Source};
 use crate::{CheckFault, Content};
 use dg_parse::QEdge;
 use dg_schema::Schema;
-use dg_values::{Kind, Mem, OutOfMemory, Str};
+use dg_values::{Kind, List, Mem, OutOfMemory, Str};
 use std::alloc::Global;
 
 /// A variable that is defined, and what it has.
@@ -97,6 +97,17 @@ pub fn all_names<'a>(alloc: Global, definitions: &[Definition<'a>]) -> Mem<Names
         names.push(definition.name)?;
     }
     Ok(names)
+}
+
+/// Copies of the names of all variables.
+pub fn copied_names(alloc: Global, definitions: &[Definition<'_>]) -> Mem<List<Str>>
+    ensures { IfOk result (λ names. names ≡ names_for false (definitions_met definitions.now)) }
+{
+    let mut names = Vec::new(alloc);
+    for definition in definitions {
+        names.push(Str::from_str(alloc, definition.name)?)?;
+    }
+    Ok(List::from_vec(names))
 }
 
 /// The names of those that have values.

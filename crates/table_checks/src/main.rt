@@ -1,10 +1,11 @@
 //! Reads rows from standard input and prints each with its answer: what is wrong with a query or an upsert block, or in
-//! which order its blocks run; its plan, with what is read of its functions; and what a maker of patterns builds. A row is
+//! which order its blocks run; its plan, with what is read of its functions, or with all its parts; and what a maker of patterns builds. A row is
 //! the name of a table and a text or fields, with a tab between any two. A row of the table `schema` declares the predicates
 //! of the rows behind it.
 #![tactic(auto)]
 
 mod answers;
+mod parts;
 mod patterns;
 mod plans;
 
@@ -54,6 +55,7 @@ fn answer(alloc: Global, schema: &mut Schema, table: &str, text: &str) -> Mem<Op
         "query" => answers::query(alloc, schema, text),
         "upsert" => answers::upsert(alloc, schema, text),
         "plan" => plans::plan(alloc, schema, text),
+        "parts" => parts::parts(alloc, schema, text),
         "upsert_plan" => plans::upsert_plan(alloc, schema, text),
         "pattern" => patterns::pattern(alloc, text),
         _ => Ok(None),

@@ -2,7 +2,9 @@
 ghost use Rattle.std.specs.Prelude.{◌≤◌, length};
 
 use crate::answers::fault_text;
-use dg_check::{CheckFault, Plan, Read, RegexPatterns, check, check_upsert};
+use dg_check::{
+    CheckFault, Field, Filter, Func, Item, Part, Plan, RegexPatterns, check, check_upsert,
+};
 use dg_parse::{parse, parse_upsert};
 use dg_schema::Schema;
 use dg_values::{Kind, Mem, OutOfMemory, Str, Value, write_value};
@@ -52,30 +54,101 @@ fn outcome(alloc: Global, made: &Result<Plan, CheckFault>) -> Mem<String> {
     }
 }
 
-// The places of blocks, and behind a bar for each function what is read of it.
+// The places of blocks, and behind a bar for each function what is read of it, in the order of the text.
 fn plan_text(alloc: Global, plan: &Plan) -> Mem<String> {
     let mut out = String::from_str(alloc, "ok")?;
     for place in plan.order.as_slice() {
         write!(out, " {place}")?;
     }
-    for read in plan.read.as_slice() {
-        add_read(alloc, &mut out, read)?;
+    for block in plan.parts.as_slice() {
+        add_root(alloc, &mut out, &block.root)?;
+        add_filters(alloc, &mut out, block.filters.as_slice())?;
+        add_fields(alloc, &mut out, block.fields.as_slice())?;
     }
     Ok(out)
 }
 
-// Adds what is read of a function.
-fn add_read(alloc: Global, out: &mut String, read: &Read) -> Mem<()> {
-    match read {
-        Read::Nothing => write!(out, " | -")?,
-        Read::Pattern(_) => write!(out, " | pattern")?,
-        Read::Values { kind, values } => {
-            let word = kind_word(*kind);
-            write!(out, " | {word}")?;
-            for value in values.as_slice() {
-                add_value(alloc, out, value)?;
-            }
+// Adds what is read of a root, where there is one.
+fn add_root(alloc: Global, out: &mut String, root: &Option<Func>) -> Mem<()> {
+    match root {
+        None => Ok(()),
+        Some(func) => add_func(alloc, out, func),
+    }
+}
+
+// Adds what is read of the functions of filters.
+#[cycle(filter)]
+fn add_filters(alloc: Global, out: &mut String, filters: &[Filter]) -> Mem<()> {
+    for filter in filters {
+        add_part(alloc, out, &filter.part)?;
+    }
+    Ok(())
+}
+
+// Adds what is read of the functions of a filter's part.
+#[cycle(filter)]
+fn add_part(alloc: Global, out: &mut String, part: &Part) -> Mem<()> {
+    match part {
+        Part::Or(parts) => add_filters(alloc, out, parts.as_slice()),
+        Part::And(parts) => add_filters(alloc, out, parts.as_slice()),
+        Part::Func(func) => add_func(alloc, out, func),
+    }
+}
+
+// Adds what is read of the functions of fields.
+#[cycle(field)]
+fn add_fields(alloc: Global, out: &mut String, fields: &[Field]) -> Mem<()> {
+    for field in fields {
+        add_item(alloc, out, &field.item)?;
+    }
+    Ok(())
+}
+
+// Adds what is read of the functions of an item.
+#[cycle(field)]
+fn add_item(alloc: Global, out: &mut String, item: &Item) -> Mem<()> {
+    match item {
+        Item::Plain | Item::Val(_) => Ok(()),
+        Item::Edge {
+            filters,
+            fields,
+            ..
+        } => {
+            add_filters(alloc, out, filters.as_slice())?;
+            add_fields(alloc, out, fields.as_slice())
         }
+    }
+}
+
+// Adds what is read of a function.
+fn add_func(alloc: Global, out: &mut String, func: &Func) -> Mem<()> {
+    match func {
+        Func::Uid(_) | Func::Has(_) | Func::Terms { .. } | Func::UidIn { .. } => {
+            Ok(write!(out, " | -")?)
+        }
+        Func::Regexp { .. } => Ok(write!(out, " | pattern")?),
+        Func::Cmp { kind, values, .. } => {
+            write!(out, " |")?;
+            add_values(alloc, out, *kind, values.as_slice())
+        }
+        Func::Between { kind, values, .. } => {
+            write!(out, " |")?;
+            add_values(alloc, out, *kind, values.as_slice())
+        }
+    }
+}
+
+// Adds a kind and values.
+pub(crate) fn add_values(
+    alloc: Global,
+    out: &mut String,
+    kind: Option<Kind>,
+    values: &[Value],
+) -> Mem<()> {
+    let word = kind_word(kind);
+    write!(out, " {word}")?;
+    for value in values {
+        add_value(alloc, out, value)?;
     }
     Ok(())
 }
