@@ -20,16 +20,16 @@ use Rattle.dg_keys.specs.KeyOrder.{conflict_order}
 use Rattle.dg_zero.specs.Listings.{keys_of_change, keys_of_changes}
 use Rattle.dg_edges.specs.Deltas.{data_conflict, data_conflicts, AreFitting}
 
-front : (P : ConflictKey → Type 0) (xs ys : List ConflictKey) → AllByRecursion P (xs ++ ys) → AllByRecursion P xs
+pub front : {X : Type 0} (P : X → Type 0) (xs ys : List X) → AllByRecursion P (xs ++ ys) → AllByRecursion P xs
 front P [] ys a = tt
 front P (x ∷ xs) ys a = (a.0, front P xs ys a.1)
 
-behind : (P : ConflictKey → Type 0) (xs ys : List ConflictKey) → AllByRecursion P (xs ++ ys) → AllByRecursion P ys
+pub behind : {X : Type 0} (P : X → Type 0) (xs ys : List X) → AllByRecursion P (xs ++ ys) → AllByRecursion P ys
 behind P [] ys a = a
 behind P (x ∷ xs) ys a = behind P xs ys a.1
 
 -- the key of a declared change's data
-data_key : (P : ConflictKey → Type 0) (schema : List PredDef) (graph : List Triple) (c : Change) (def : PredDef) → definition_of schema (changed c).p ≡ Some def → AllByRecursion P (keys_of_change (Some def) graph c) → P (data_conflict schema (changed c))
+pub data_key : (P : ConflictKey → Type 0) (schema : List PredDef) (graph : List Triple) (c : Change) (def : PredDef) → definition_of schema (changed c).p ≡ Some def → AllByRecursion P (keys_of_change (Some def) graph c) → P (data_conflict schema (changed c))
 data_key P schema graph c def e a =
     let one : not def.list ≡ is_single schema (changed c).p = sym (ap is_single_by e) in
     subst (λ (b : Bool). P (conflicts.Data (changed c).p (changed c).s (cond b None (Some (changed c).o)))) one (by c a)
@@ -46,7 +46,7 @@ its_key : (P : ConflictKey → Type 0) (schema : List PredDef) (graph : List Tri
 its_key P schema graph (changes.Set t) def e cs a = data_key P schema graph (changes.Set t) def e (subst (λ (d : Option PredDef). AllByRecursion P (keys_of_change d graph (changes.Set t))) e (front P (keys_of_change (definition_of schema t.p) graph (changes.Set t)) (keys_of_changes schema (after_change schema graph (changes.Set t)) cs) a))
 its_key P schema graph (changes.Del t) def e cs a = data_key P schema graph (changes.Del t) def e (subst (λ (d : Option PredDef). AllByRecursion P (keys_of_change d graph (changes.Del t))) e (front P (keys_of_change (definition_of schema t.p) graph (changes.Del t)) (keys_of_changes schema (after_change schema graph (changes.Del t)) cs) a))
 
-later_keys : (P : ConflictKey → Type 0) (schema : List PredDef) (graph : List Triple) (c : Change) (cs : List Change) → AllByRecursion P (keys_of_changes schema graph (c ∷ cs)) → AllByRecursion P (keys_of_changes schema (after_change schema graph c) cs)
+pub later_keys : (P : ConflictKey → Type 0) (schema : List PredDef) (graph : List Triple) (c : Change) (cs : List Change) → AllByRecursion P (keys_of_changes schema graph (c ∷ cs)) → AllByRecursion P (keys_of_changes schema (after_change schema graph c) cs)
 later_keys P schema graph (changes.Set t) cs a = behind P (keys_of_change (definition_of schema t.p) graph (changes.Set t)) (keys_of_changes schema (after_change schema graph (changes.Set t)) cs) a
 later_keys P schema graph (changes.Del t) cs a = behind P (keys_of_change (definition_of schema t.p) graph (changes.Del t)) (keys_of_changes schema (after_change schema graph (changes.Del t)) cs) a
 

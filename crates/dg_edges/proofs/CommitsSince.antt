@@ -17,9 +17,6 @@ use Rattle.dg_graph.specs.Changes.{has_triple, there_after_all}
 use Rattle.dg_graph.proofs.GraphLaws.{known_by_triples, changes_by_triple, changes_ascend}
 use Rattle.dg_keys.specs.declared.conflict.ConflictKey.{ConflictKey}
 use Rattle.dg_keys.specs.declared.record.Record.{Record}
-use Rattle.dg_keys.specs.declared.key.Key.{Key}
-use Rattle.dg_keys.specs.declared.key.Key.TheVariants.{Data, Index, Reverse, Count, RCount}
-use Rattle.dg_keys.specs.Keys.{ops_at}
 use Rattle.dg_keys.specs.KeyOrder.{conflict_order}
 use Rattle.dg_keys.specs.Conflicts.{conflict_cmp}
 use Rattle.dg_oracle.specs.Commits as oracle
@@ -43,14 +40,13 @@ use Rattle.dg_zero.proofs.LawsOfHistories.{kept_from, anyone, world_push, world_
 use Rattle.dg_zero.proofs.SchemasStay.{schemas_stay}
 use Rattle.dg_zero.proofs.LawfulGraphs.{graphs_are_lawful}
 use Rattle.dg_zero.proofs.Refusals.{named}
-use Rattle.dg_edges.specs.Deltas.{gains, data_conflict, data_conflicts, IsPlain}
-use Rattle.dg_edges.specs.Laws.{Done, IsKeyed, HasNone, after_done, IsExactAtData, CommitsDoAsAsked, DataPartsAreExact, CommitsAreExact}
+use Rattle.dg_edges.specs.Deltas.{data_conflict, data_conflicts}
+use Rattle.dg_edges.specs.Laws.{Done, IsKeyed, HasNone, after_done, CommitsDoAsAsked}
 use Rattle.dg_edges.proofs.AgreeLaws.{same_bools, all_apart}
 use Rattle.dg_edges.proofs.AnyKeys.{declared, data_found}
-use Rattle.dg_edges.proofs.EdgeLaws.{gains_none, other_same}
-use Rattle.dg_edges.proofs.OfferLaws.{others_leave, lawful_goal, lawful_done, differing_fits}
-use Rattle.dg_edges.proofs.PartsStay.{DifferAlike, both_alike, neither_changed, data_gains_alike}
-use Rattle.dg_edges.proofs.SoundParts.{each_ascending, sound_changes_fit, sound_keyed}
+use Rattle.dg_edges.proofs.OfferLaws.{others_leave, lawful_done, differing_fits}
+use Rattle.dg_edges.proofs.PartsStay.{DifferAlike, both_alike, neither_changed}
+use Rattle.dg_edges.proofs.SoundParts.{each_ascending, sound_keyed}
 
 -- ---- a clear verdict: no commit above the start has one of the keys
 
@@ -96,11 +92,11 @@ pub record IsReached (g : List Entry) (start : ℕ) : Type 0 where
   pub graph_is : (world g).graph ≡ after_done (schema g) (world_at g start).graph others
 
 -- a key that no commit of a longer history has, none of the shorter has
-front_clear : (cs ds : List (oracle.Commit ConflictKey)) (start : ℕ) (key : ConflictKey) → judged.HasNoClash conflict_cmp (cs ++ ds) start key → judged.HasNoClash conflict_cmp cs start key
+pub front_clear : (cs ds : List (oracle.Commit ConflictKey)) (start : ℕ) (key : ConflictKey) → judged.HasNoClash conflict_cmp (cs ++ ds) start key → judged.HasNoClash conflict_cmp cs start key
 front_clear [] ds start key a = tt
 front_clear (c ∷ cs) ds start key a = (a.0, front_clear cs ds start key a.1)
 
-last_clear : (cs : List (oracle.Commit ConflictKey)) (c : oracle.Commit ConflictKey) (start : ℕ) (key : ConflictKey) → judged.HasNoClash conflict_cmp (cs ++ c ∷ []) start key → judged.clashes conflict_cmp start key c ≡ false
+pub last_clear : (cs : List (oracle.Commit ConflictKey)) (c : oracle.Commit ConflictKey) (start : ℕ) (key : ConflictKey) → judged.HasNoClash conflict_cmp (cs ++ c ∷ []) start key → judged.clashes conflict_cmp start key c ≡ false
 last_clear [] c start key a = a.0
 last_clear (d ∷ cs) c start key a = last_clear cs c start key a.1
 
@@ -109,7 +105,7 @@ still_committed g e start d c key none =
     c key (front_clear (commits g) (commit_of e.event) start key (subst (λ (cs : List (oracle.Commit ConflictKey)). judged.HasNoClash conflict_cmp cs start key) (commits_push g e) none))
 
 -- the world at the start stays
-start_stays : (n : ℕ) (g : List Entry) (e : Entry) (start : ℕ) → start < next g → Fits n g e.author e.event → world_at (g ++ e ∷ []) start ≡ world_at g start
+pub start_stays : (n : ℕ) (g : List Entry) (e : Entry) (start : ℕ) → start < next g → Fits n g e.author e.event → world_at (g ++ e ∷ []) start ≡ world_at g start
 start_stays n g e start lt f = world_at_push g e start ∙ no_more n g e.author e.event (world_at g start) start lt f
 
 -- an entry that changes no world
@@ -138,7 +134,7 @@ reached_begun n g e start l is d =
     }
 
 -- a commit since the start
-later_key : (start ts : ℕ) (b : Bool) → start < ts → (nat_lt start ts && b) ≡ false → b ≡ false
+pub later_key : (start ts : ℕ) (b : Bool) → start < ts → (nat_lt start ts && b) ≡ false → b ≡ false
 later_key start ts b lt e = let late : nat_lt start ts ≡ true = grind (arith, common_steps) in cc
 
 reached_committed : (n : ℕ) (g : List Entry) (author start other : ℕ) (preds : List (List ℕ)) (keys : List ConflictKey) (asked : List Change) (written : Record) → IsLegal n g → Fits n g author (Commit other preds keys asked written) → IsReached g start → IsReached (g ++ (record { author = author; event = Commit other preds keys asked written }) ∷ []) start
@@ -165,7 +161,7 @@ reached_committed n g author start other preds keys asked written l f r =
 -- ---- by each entry
 
 -- a start that is active after an entry
-was_active : (starts : List Started) (other start author : ℕ) → is_active_of (ended starts other) start author ≡ true → is_active_of starts start author ≡ true
+pub was_active : (starts : List Started) (other start author : ℕ) → is_active_of (ended starts other) start author ≡ true → is_active_of starts start author ≡ true
 was_active [] other start author h = h
 was_active (s ∷ starts) other start author h = by (s.start == other) h (λ k. was_active starts other start author k)
   where
@@ -185,7 +181,7 @@ abbrev Reaches : ℕ → ℕ → List Entry → Type 0
 Reaches start author g = is_active_of (active g) start author ≡ true → IsReached g start
 
 -- begun before, or by this entry
-begun_or_before : (starts : List Started) (s : Started) (start author : ℕ) → is_active_of (starts ++ s ∷ []) start author ≡ true → (is_active_of starts start author ≡ true) ⊎ (start ≡ s.start)
+pub begun_or_before : (starts : List Started) (s : Started) (start author : ℕ) → is_active_of (starts ++ s ∷ []) start author ≡ true → (is_active_of starts start author ≡ true) ⊎ (start ≡ s.start)
 begun_or_before [] s start author h = inr (by (s.start == start) refl (s.author == author) h)
   where
     by : (v : Bool) → (s.start == start) ≡ v → (w : Bool) → ((v && w) || false) ≡ true → start ≡ s.start
@@ -256,7 +252,7 @@ module _ (n : ℕ) (h : List Entry) (author start : ℕ) (preds : List (List ℕ
   asked_clear : AllByRecursion (judged.HasNoClash conflict_cmp (commits h) start) (keys_of_changes (schema_at h start) (graph_at h start []) asked)
   asked_clear = each_ascending (judged.HasNoClash conflict_cmp (commits h) start) (keys_of_changes (schema_at h start) (graph_at h start []) asked) (subst (λ (ks : List ConflictKey). AllByRecursion (judged.HasNoClash conflict_cmp (commits h) start) ks) f.made_of.keys_are clear)
 
-  parts_clear : AllByRecursion (judged.HasNoClash conflict_cmp (commits h) start) (keys_of_changes (schema_at h start) (graph_at h start []) (changes_of written.parts))
+  pub parts_clear : AllByRecursion (judged.HasNoClash conflict_cmp (commits h) start) (keys_of_changes (schema_at h start) (graph_at h start []) (changes_of written.parts))
   parts_clear =
       each_ascending (judged.HasNoClash conflict_cmp (commits h) start) (keys_of_changes (schema_at h start) (graph_at h start []) (changes_of written.parts))
       (all_with (λ k. has conflict_cmp keys k ≡ true) (judged.HasNoClash conflict_cmp (commits h) start) (conflict_keys (schema_at h start) (graph_at h start []) (changes_of written.parts)) (λ k there. at conflict_cmp conflict_order (judged.HasNoClash conflict_cmp (commits h) start) keys k clear there) f.sound.keys_named)
@@ -316,43 +312,12 @@ module _ (n : ℕ) (h : List Entry) (author start : ℕ) (preds : List (List ℕ
           (sym (now ∙ all_apart (schema_at h start) u (has_triple (graph_at h start []) u) (changes_of written.parts) away))
           (sym (then ∙ all_apart (schema_at h start) u (has_triple (after_done (schema_at h start) (graph_at h start []) since.others) u) (changes_of written.parts) away))
 
-  -- so a data key's list gains and loses what it did
-  data_alike : (p : List ℕ) (s : ℕ) → gains (schema_at h start) (graph_at h start []) (after_changes (schema_at h start) (graph_at h start []) (changes_of written.parts)) (Data p s) ≡ gains (schema_at h start) (after_done (schema_at h start) (graph_at h start []) since.others) (after_changes (schema_at h start) (after_done (schema_at h start) (graph_at h start []) since.others) (changes_of written.parts)) (Data p s)
-  data_alike p s =
-      let fit = sound_changes_fit (schema_at h start) (graph_at h start []) preds keys written.parts lawful f.sound in
-      data_gains_alike (schema_at h start) (graph_at h start []) (after_changes (schema_at h start) (graph_at h start []) (changes_of written.parts)) (after_done (schema_at h start) (graph_at h start []) since.others) (after_changes (schema_at h start) (after_done (schema_at h start) (graph_at h start []) since.others) (changes_of written.parts)) p s
-      lawful f.sound.lawful lawful_later (lawful_goal (schema_at h start) (after_done (schema_at h start) (graph_at h start []) since.others) (changes_of written.parts) fit lawful_later)
-      (λ o. differ_alike (record { s = s; p = p; o = o }))
-
-  -- the same in the present graph, under the present schema
-  at_present : (key : Key) → gains (schema_at h start) (after_done (schema_at h start) (graph_at h start []) since.others) (after_changes (schema_at h start) (after_done (schema_at h start) (graph_at h start []) since.others) (changes_of written.parts)) key ≡ gains (schema h) (world h).graph (after_changes (schema h) (world h).graph (changes_of written.parts)) key
-  at_present key = λ i. gains (same i) (sym later_is i) (after_changes (same i) (sym later_is i) (changes_of written.parts)) key
+  -- the same in the present graph
+  pub differ_now : (u : Triple) → DifferAlike (has_triple (graph_at h start []) u) (has_triple (after_changes (schema_at h start) (graph_at h start []) (changes_of written.parts)) u) (has_triple (world h).graph u) (has_triple (after_changes (schema_at h start) (world h).graph (changes_of written.parts)) u)
+  differ_now u = subst (λ (g : List Triple). DifferAlike (has_triple (graph_at h start []) u) (has_triple (after_changes (schema_at h start) (graph_at h start []) (changes_of written.parts)) u) (has_triple g u) (has_triple (after_changes (schema_at h start) g (changes_of written.parts)) u)) (sym later_is) (differ_alike u)
 
   pub asked_does : after_changes (schema h) (world h).graph asked ≡ after_changes (schema h) (world h).graph (changes_of written.parts)
   asked_does = (λ i. after_changes (sym same i) (later_is i) asked) ∙ (do_alike ∙ sym (λ i. after_changes (sym same i) (later_is i) (changes_of written.parts)))
 
-  pub data_exact : (p : List ℕ) (s : ℕ) → IsExactAtData h written.parts p s
-  data_exact p s = f.sound.parts_are.exact (Data p s) ∙ (data_alike p s ∙ at_present (Data p s))
-
-  -- a key of another kind lists nothing under a plain schema
-  other_exact : (key : Key) → IsPlain (schema h) → ((p : List ℕ) (s : ℕ) → key ≡ Data p s → ⊥) → ops_at written.parts key ≡ gains (schema h) (world h).graph (after_changes (schema h) (world h).graph (changes_of written.parts)) key
-  other_exact key plain other =
-      f.sound.parts_are.exact key
-      ∙ (gains_none (schema_at h start) (graph_at h start []) (after_changes (schema_at h start) (graph_at h start []) (changes_of written.parts)) key (other_same (schema_at h start) (graph_at h start []) (after_changes (schema_at h start) (graph_at h start []) (changes_of written.parts)) key (subst IsPlain (sym same) plain) other)
-      ∙ sym (gains_none (schema h) (world h).graph (after_changes (schema h) (world h).graph (changes_of written.parts)) key (other_same (schema h) (world h).graph (after_changes (schema h) (world h).graph (changes_of written.parts)) key plain other)))
-
-  pub all_exact : IsPlain (schema h) → (key : Key) → ops_at written.parts key ≡ gains (schema h) (world h).graph (after_changes (schema h) (world h).graph (changes_of written.parts)) key
-  all_exact plain (Data p s) = data_exact p s
-  all_exact plain (Index p t) = other_exact (Index p t) plain (λ q s e. cc)
-  all_exact plain (Reverse p o) = other_exact (Reverse p o) plain (λ q s e. cc)
-  all_exact plain (Count p k) = other_exact (Count p k) plain (λ q s e. cc)
-  all_exact plain (RCount p k) = other_exact (RCount p k) plain (λ q s e. cc)
-
 pub commits_do_as_asked : CommitsDoAsAsked
 commits_do_as_asked n h author start preds keys asked written l f = asked_does n h author start preds keys asked written l f
-
-pub data_parts_are_exact : DataPartsAreExact
-data_parts_are_exact n h author start preds keys asked written l f = data_exact n h author start preds keys asked written l f
-
-pub commits_are_exact : CommitsAreExact
-commits_are_exact n h author start preds keys asked written l plain f = all_exact n h author start preds keys asked written l f plain

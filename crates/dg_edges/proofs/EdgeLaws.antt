@@ -1,25 +1,32 @@
 -- The parts and the keys of changes.
-use Rattle.std.proofs.Common.{◌≡◌, ℕ, Bool, true, false, cond, List, [], ◌∷◌, Option, Some, None, fold, map, refl, ap, subst, sym, ◌∙◌}
+use Rattle.std.proofs.Common.{◌≡◌, ℕ, nat_le, Bool, true, false, cond, List, [], ◌∷◌, Option, Some, None, fold, map, filter, length, refl, ap, subst, sym, ◌∙◌}
+use Rattle.std.specs.Prelude.{◌&&◌, ◌==◌}
+use Rattle.std.specs.List.{AllByRecursion}
 use Rattle.std.proofs.lemmas.Bool.{both_ways, or_parts}
-use Rattle.std.specs.Ordering.{is_eq}
+use Rattle.std.specs.declared.cmp.Ordering.TheVariants.{Less}
+use Rattle.std.specs.Ordering.{is_eq, nat_cmp}
 use Rattle.dg_values.specs.Ascending.{Ascends, has}
 use Rattle.dg_values.specs.Order.{posting_cmp}
 use Rattle.dg_values.specs.declared.value.Posting.{Posting}
-use Rattle.dg_sets.proofs.Sets.{is_itself, at, has_more, ascends_more}
+use Rattle.dg_values.specs.declared.value.Posting.TheVariants.{Uid}
+use Rattle.dg_values.proofs.OrderLaws.{posting_order}
+use Rattle.dg_sets.proofs.MadeOrders.{nat_order}
+use Rattle.dg_sets.proofs.Sets.{is_itself, at, has_more, ascends_more, ascends_passed}
 use Rattle.dg_delta.specs.Ops.{changes_between}
 use Rattle.dg_edges.proofs.OpLaws.{between_ascends, none_between}
 use Rattle.dg_schema.specs.declared.definition.PredDef.{PredDef}
 use Rattle.dg_schema.specs.Definitions.{definition_of, is_named}
 use Rattle.dg_graph.specs.declared.change.Triple.{Triple}
 use Rattle.dg_graph.specs.declared.change.Change.{Change}
-use Rattle.dg_graph.specs.Graphs.{triple_cmp, is_of_subject, objects, fits, fits_by, after_changes, IsLawful}
+use Rattle.dg_graph.specs.Graphs.{triple_cmp, is_of, is_of_subject, objects, fits, fits_by, after_changes, IsLawful}
 use Rattle.dg_graph.specs.Changes.{has_triple, changed, own_objects_after, objects_after}
+use Rattle.dg_graph.specs.Lookups.{has_token, has_tokenizer, subjects_where, subjects_of, all_objects, with_objects, with_subjects, is_node}
 use Rattle.dg_graph.proofs.GraphLaws.{triple_order, same_subject}
 use Rattle.dg_graph.proofs.ObjectLaws.{objects_are, objects_ascend, objects_after_all}
 use Rattle.dg_keys.specs.declared.key.Key.{Key}
 use Rattle.dg_keys.specs.declared.key.Key.TheVariants as keys
 use Rattle.dg_keys.specs.Keys.{key_cmp, pred_of}
-use Rattle.dg_zero.specs.Listings.{listing, listing_by}
+use Rattle.dg_zero.specs.Listings.{nodes, listing, listing_by}
 use Rattle.dg_keys.specs.KeyOrder.{key_order}
 use Rattle.dg_edges.specs.Deltas.{gains, data_key, data_keys, IsPlainDefinition, IsPlain}
 use Rattle.dg_edges.specs.Laws.{DeltasAgree}
@@ -55,7 +62,7 @@ listed_by schema graph p s o l = by (definition_of schema p) refl
     by None e = none (has_triple graph (record { s = s; p = p; o = o })) refl e
     by (Some def) e = objects_are graph p s o
 
--- a key lists an ascending list, under a plain schema
+-- under a plain schema, keys but those of subjects list nothing
 other_by : (d : Option PredDef) (graph : List Triple) (key : Key) → ((def : PredDef) → d ≡ Some def → IsPlainDefinition def) → ((p : List ℕ) (s : ℕ) → key ≡ keys.Data p s → ⊥) → listing_by d graph key ≡ []
 other_by None graph key plain other = refl
 other_by (Some def) graph (keys.Data p s) plain other = absurd (other p s refl)
@@ -64,16 +71,35 @@ other_by (Some def) graph (keys.Reverse p o) plain other = let q = plain def ref
 other_by (Some def) graph (keys.Count p n) plain other = let q = plain def refl in rw q.2 refl
 other_by (Some def) graph (keys.RCount p n) plain other = let q = plain def refl in rw q.1 refl
 
-pub listing_ascends : (schema : List PredDef) (graph : List Triple) (key : Key) → IsPlain schema → Ascends triple_cmp graph → Ascends posting_cmp (listing schema graph key)
-listing_ascends schema graph (keys.Data p s) plain a = by (definition_of schema p)
+-- ---- what a key lists ascends
+
+nodes_above : (n : ℕ) (ns : List ℕ) → AllByRecursion (λ m. nat_cmp n m ≡ Less) ns → AllByRecursion (λ o. posting_cmp (Uid n) o ≡ Less) (nodes ns)
+nodes_above n [] a = tt
+nodes_above n (m ∷ ns) a = (a.0, nodes_above n ns a.1)
+
+nodes_ascend : (ns : List ℕ) → Ascends nat_cmp ns → Ascends posting_cmp (nodes ns)
+nodes_ascend [] a = tt
+nodes_ascend (n ∷ ns) a = (nodes_above n ns a.0, nodes_ascend ns a.1)
+
+subjects_ascend : (test : Posting → Bool) (graph : List Triple) (p : List ℕ) → Ascends nat_cmp (subjects_where test graph p)
+subjects_ascend test graph p = ascends_more nat_cmp nat_order [] (map (λ (t : Triple). t.s) (filter (λ t. is_of p t && test t.o) graph)) tt
+
+if_ascends : (b : Bool) (os : List Posting) → Ascends posting_cmp os → Ascends posting_cmp (cond b os [])
+if_ascends true os a = a
+if_ascends false os a = tt
+
+pub listing_ascends : (schema : List PredDef) (graph : List Triple) (key : Key) → Ascends triple_cmp graph → Ascends posting_cmp (listing schema graph key)
+listing_ascends schema graph key a = by (definition_of schema (pred_of key)) key
   where
-    by : (d : Option PredDef) → Ascends posting_cmp (listing_by d graph (keys.Data p s))
-    by None = tt
-    by (Some def) = objects_ascend graph p s a
-listing_ascends schema graph (keys.Index p t) plain a = subst (Ascends posting_cmp) (sym (other_by (definition_of schema p) graph (keys.Index p t) (λ def e. plain_found schema p def plain e) (λ q s e. cc))) tt
-listing_ascends schema graph (keys.Reverse p t) plain a = subst (Ascends posting_cmp) (sym (other_by (definition_of schema p) graph (keys.Reverse p t) (λ def e. plain_found schema p def plain e) (λ q s e. cc))) tt
-listing_ascends schema graph (keys.Count p t) plain a = subst (Ascends posting_cmp) (sym (other_by (definition_of schema p) graph (keys.Count p t) (λ def e. plain_found schema p def plain e) (λ q s e. cc))) tt
-listing_ascends schema graph (keys.RCount p t) plain a = subst (Ascends posting_cmp) (sym (other_by (definition_of schema p) graph (keys.RCount p t) (λ def e. plain_found schema p def plain e) (λ q s e. cc))) tt
+    by : (d : Option PredDef) (k : Key) → Ascends posting_cmp (listing_by d graph k)
+    by None k = tt
+    by (Some def) (keys.Data p s) = objects_ascend graph p s a
+    by (Some def) (keys.Index p t) = if_ascends (has_tokenizer def t.tokenizer) (nodes (subjects_where (has_token t) graph p)) (nodes_ascend (subjects_where (has_token t) graph p) (subjects_ascend (has_token t) graph p))
+    by (Some def) (keys.Reverse p o) = if_ascends def.reverse (nodes (subjects_of graph p (Uid o))) (nodes_ascend (subjects_of graph p (Uid o)) (subjects_ascend (λ object. is_eq (posting_cmp object (Uid o))) graph p))
+    by (Some def) (keys.Count p n) =
+        if_ascends (def.count && nat_le 1 n) (nodes (with_objects graph p n)) (nodes_ascend (with_objects graph p n) (ascends_passed nat_cmp nat_order (λ (s : ℕ). length (objects graph p s) == n) (subjects_where (λ o. true) graph p) (subjects_ascend (λ o. true) graph p)))
+    by (Some def) (keys.RCount p n) =
+        if_ascends (def.reverse && (def.count && nat_le 1 n)) (with_subjects graph p n) (ascends_passed posting_cmp posting_order (λ (o : Posting). is_node o && (length (subjects_of graph p o) == n)) (all_objects graph p) (ascends_more posting_cmp posting_order [] (map (λ (t : Triple). t.o) (filter (is_of p) graph)) tt))
 
 -- ---- a key that no change has keeps its list
 
@@ -123,7 +149,7 @@ data_keys_ascend cs = ascends_more key_cmp key_order [] (map data_key cs) tt
 pub deltas_agree : DeltasAgree
 deltas_agree schema graph cs plain fit l =
     record {
-      parts_are = are_parts (gains schema graph (after_changes schema graph cs)) (data_keys cs) (data_keys_ascend cs) (λ key. between_ascends (listing schema graph key) (listing schema (after_changes schema graph cs) key) (listing_ascends schema graph key plain l.ascend));
+      parts_are = are_parts (gains schema graph (after_changes schema graph cs)) (data_keys cs) (data_keys_ascend cs) (λ key. between_ascends (listing schema graph key) (listing schema (after_changes schema graph cs) key) (listing_ascends schema graph key l.ascend));
       exact = λ key. ops_at_parts (gains schema graph (after_changes schema graph cs)) (data_keys cs) key (data_keys_ascend cs) ∙ by key (has key_cmp (data_keys cs) key) refl;
     }
   where

@@ -1,17 +1,16 @@
 -- The objects of the subjects that are changed, before changes and after some.
-use Rattle.std.proofs.Common.{Result, Ok, Err, IfOk, ◌≡◌, ℕ, zero, suc, ◌+◌, ◌<◌, Bool, true, false, cond, List, [], ◌∷◌, ◌++◌, length, get_or, take, fold, map, refl, ap, subst, sym, ◌∙◌, arith, append_assoc}
+use Rattle.std.proofs.Common.{Result, Ok, Err, IfOk, ◌≡◌, ℕ, ◌+◌, ◌<◌, Bool, true, false, cond, List, [], ◌∷◌, ◌++◌, length, get_or, take, fold, map, refl, sym, ◌∙◌, arith, append_assoc}
 use Rattle.std.specs.Prelude.{OnOk, sum_by}
 use Rattle.std.specs.List.{AllByRecursion}
 use Rattle.std.proofs.Math.ListN.{set}
 use Rattle.std.proofs.lemmas.List.{take_more}
 use Rattle.std.proofs.lemmas.List.Sums.{fold-append, sum_by-cons}
-use Rattle.std.proofs.lemmas.Bool.{both_ways, or_parts}
-use Rattle.std.specs.declared.cmp.Ordering.TheVariants.{Less}
+use Rattle.std.proofs.lemmas.Bool.{both_ways}
 use Rattle.std.specs.Ordering.{is_eq}
 use Rattle.dg_values.specs.Ascending.{Ascends, has}
 use Rattle.dg_values.specs.Order.{posting_cmp}
 use Rattle.dg_values.proofs.OrderLaws.{posting_order}
-use Rattle.dg_sets.proofs.Sets.{is_itself, not_above, one_list, from_each, at, has_more}
+use Rattle.dg_sets.proofs.Sets.{is_itself, one_list, from_each, at, has_more}
 use Rattle.dg_delta.specs.declared.op.Op.{Op}
 use Rattle.dg_delta.specs.Ops.{changes_between}
 use Rattle.dg_schema.specs.declared.definition.PredDef.{PredDef}
@@ -31,6 +30,7 @@ use Rattle.dg_edges.specs.Deltas.{and_part, parts_at, gains, data_key, data_keys
 use Rattle.dg_edges.specs.Lists.{Lists, objects_at, reads_at, unchanged_at, changed_at, lists_after}
 use Rattle.dg_edges.proofs.EdgeLaws.{listed_by, other_same, gains_none, listing_ascends}
 use Rattle.dg_edges.proofs.OfferLaws.{lawful_goal}
+use Rattle.dg_edges.proofs.AtKeys.{others_stay, set_at}
 
 -- ---- what holds of results
 
@@ -56,7 +56,7 @@ all_data : (cs : List Change) → AllByRecursion IsOneRead (map data_key cs)
 all_data [] = tt
 all_data (c ∷ cs) = (refl, all_data cs)
 
-all_one : (ks : List Key) → AllByRecursion IsOneRead ks → sum_by reads_at ks ≡ length ks
+pub all_one : (ks : List Key) → AllByRecursion IsOneRead ks → sum_by reads_at ks ≡ length ks
 all_one [] a = refl
 all_one (k ∷ ks) a = let rest = all_one ks a.1 in let first = sum_by-cons reads_at k ks in omega (arith, a.0, rest, first)
 
@@ -85,30 +85,11 @@ other_key schema c (keys.Count p n) l e = refl
 other_key schema c (keys.RCount p n) l e = refl
 
 pub other_keys : (schema : List PredDef) (c : Change) (f : Key → Lists) (ks : List Key) → has key_cmp ks (data_key c) ≡ false → map f ks ≡ map (λ k. changed_at schema c k (f k)) ks
-other_keys schema c f [] h = refl
-other_keys schema c f (k ∷ ks) h =
-    let both = or_parts (is_eq (key_cmp k (data_key c))) (has key_cmp ks (data_key c)) h in
-    λ i. sym (other_key schema c k (f k) both.0) i ∷ other_keys schema c f ks both.1 i
-
-pub all_at : {X : Type 0} (P : X → Type 0) (xs : List X) (place : ℕ) (d : X) → place < length xs → AllByRecursion P xs → P (get_or xs place d)
-all_at P [] place d lt a = absurd (omega arith)
-all_at P (x ∷ xs) zero d lt a = a.0
-all_at P (x ∷ xs) (suc place) d lt a = all_at P xs place d (omega arith) a.1
+other_keys schema c f ks h = others_stay (changed_at schema c) (data_key c) (other_key schema c) f ks h
 
 -- the objects at the place of a change's key
 pub at_place : (schema : List PredDef) (c : Change) (f : Key → Lists) (ks : List Key) (place : ℕ) → Ascends key_cmp ks → place < length ks → get_or ks place (data_key c) ≡ data_key c → set (map f ks) place (changed_at schema c (data_key c) (f (data_key c))) ≡ map (λ k. changed_at schema c k (f k)) ks
-at_place schema c f [] place a lt is = absurd (omega arith)
-at_place schema c f (k ∷ ks) zero a lt is =
-    let out : has key_cmp ks (data_key c) ≡ false = subst (λ (l : Key). has key_cmp ks l ≡ false) is (not_above key_cmp key_order k ks a.0) in
-    λ i. changed_at schema c (sym is i) (f (sym is i)) ∷ other_keys schema c f ks out i
-at_place schema c f (k ∷ ks) (suc place) a lt is =
-    let low = subst (λ (l : Key). key_cmp k l ≡ Less) is (all_at (λ l. key_cmp k l ≡ Less) ks place (data_key c) (omega arith) a.0) in
-    λ i. sym (other_key schema c k (f k) (ap is_eq low)) i ∷ at_place schema c f ks place a.1 (omega arith) is i
-
-pub mapped_at : (f : Key → Lists) (ks : List Key) (place : ℕ) (k : Key) (l : Lists) → place < length ks → get_or ks place k ≡ k → get_or (map f ks) place l ≡ f k
-mapped_at f [] place k l lt is = absurd (omega arith)
-mapped_at f (m ∷ ks) zero k l lt is = ap f is
-mapped_at f (m ∷ ks) (suc place) k l lt is = mapped_at f ks place k l (omega arith) is
+at_place schema c f ks place a lt is = set_at (changed_at schema c) (data_key c) (other_key schema c) f ks place a lt is
 
 -- ---- the objects after changes
 
@@ -127,9 +108,9 @@ none_from schema k [] l f = refl
 none_from schema k (c ∷ cs) l f = none_from schema k cs (changed_at schema c k l) f ∙ f c l
 
 -- a subject's list is its objects
-data_listing : (schema : List PredDef) (graph : List Triple) (p : List ℕ) (s : ℕ) → IsPlain schema → IsLawful schema graph → objects graph p s ≡ listing schema graph (keys.Data p s)
-data_listing schema graph p s plain l =
-    sym (one_list posting_cmp posting_order (listing schema graph (keys.Data p s)) (objects graph p s) (listing_ascends schema graph (keys.Data p s) plain l.ascend) (objects_ascend graph p s l.ascend) (λ o. listed_by schema graph p s o l ∙ sym (objects_are graph p s o)))
+data_listing : (schema : List PredDef) (graph : List Triple) (p : List ℕ) (s : ℕ) → IsLawful schema graph → objects graph p s ≡ listing schema graph (keys.Data p s)
+data_listing schema graph p s l =
+    sym (one_list posting_cmp posting_order (listing schema graph (keys.Data p s)) (objects graph p s) (listing_ascends schema graph (keys.Data p s) l.ascend) (objects_ascend graph p s l.ascend) (λ o. listed_by schema graph p s o l ∙ sym (objects_are graph p s o)))
 
 -- other keys have none
 gains_other : (schema : List PredDef) (graph : List Triple) (cs : List Change) (k : Key) → IsPlain schema → ((c : Change) (m : Lists) → changed_at schema c k m ≡ m) → ((p : List ℕ) (s : ℕ) → k ≡ keys.Data p s → ⊥) → objects_at graph k ≡ [] → changes_between (lists_after schema graph cs k).before (lists_after schema graph cs k).after ≡ gains schema graph (after_changes schema graph cs) k
@@ -145,7 +126,7 @@ gains_are schema graph cs plain fit l (keys.Data p s) =
     let whole = after_from schema p s cs (unchanged_at graph (keys.Data p s)) in
     (λ i. changes_between (whole i).before (whole i).after)
     ∙ ((λ i. changes_between (objects graph p s) (sym (objects_after_all schema graph cs p s l.ascend) i))
-    ∙ λ i. changes_between (data_listing schema graph p s plain l i) (data_listing schema (after_changes schema graph cs) p s plain (lawful_goal schema graph cs fit l) i))
+    ∙ λ i. changes_between (data_listing schema graph p s l i) (data_listing schema (after_changes schema graph cs) p s (lawful_goal schema graph cs fit l) i))
 gains_are schema graph cs plain fit l (keys.Index p t) = gains_other schema graph cs (keys.Index p t) plain (λ c m. refl) (λ q s e. cc) refl
 gains_are schema graph cs plain fit l (keys.Reverse p o) = gains_other schema graph cs (keys.Reverse p o) plain (λ c m. refl) (λ q s e. cc) refl
 gains_are schema graph cs plain fit l (keys.Count p n) = gains_other schema graph cs (keys.Count p n) plain (λ c m. refl) (λ q s e. cc) refl

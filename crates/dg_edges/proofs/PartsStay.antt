@@ -1,5 +1,5 @@
 -- On a later graph that agrees at the keys of changes, lists gain and lose by the changes what they did.
-use Rattle.std.proofs.Common.{◌≡◌, ℕ, Bool, true, false, not, List, Option, Some, None, fold, map, refl, subst, sym, ◌∙◌}
+use Rattle.std.proofs.Common.{◌≡◌, ℕ, Bool, true, false, not, List, fold, map, refl, subst, sym, ◌∙◌}
 use Rattle.std.specs.Prelude.{◌&&◌}
 use Rattle.dg_values.specs.Ascending.{Ascends, has, with_one}
 use Rattle.dg_values.specs.Order.{posting_cmp}
@@ -9,21 +9,19 @@ use Rattle.dg_sets.proofs.Sets.{one_list, has_passed, ascends_passed}
 use Rattle.dg_delta.specs.declared.op.Op.TheVariants.{Set, Del}
 use Rattle.dg_delta.specs.Ops.{op_cmp, missing, changes_between}
 use Rattle.dg_schema.specs.declared.definition.PredDef.{PredDef}
-use Rattle.dg_schema.specs.Definitions.{definition_of}
 use Rattle.dg_graph.specs.declared.change.Triple.{Triple}
 use Rattle.dg_graph.specs.declared.change.Change.{Change}
 use Rattle.dg_graph.specs.Graphs.{after_changes, IsLawful}
 use Rattle.dg_graph.specs.Changes.{has_triple, there_after_all}
 use Rattle.dg_graph.proofs.GraphLaws.{changes_by_triple}
-use Rattle.dg_graph.proofs.ObjectLaws.{objects_ascend}
 use Rattle.dg_keys.specs.declared.key.Key.{Key}
 use Rattle.dg_keys.specs.declared.key.Key.TheVariants as keys
 use Rattle.dg_keys.specs.Conflicts.{conflict_cmp}
-use Rattle.dg_zero.specs.Listings.{listing, listing_by}
+use Rattle.dg_zero.specs.Listings.{listing}
 use Rattle.dg_edges.specs.Deltas.{parts_at, gains, data_keys, data_conflict, data_conflicts, IsPlain, AreFitting}
 use Rattle.dg_edges.specs.Laws.{AgreeAt, PartsStay}
 use Rattle.dg_edges.proofs.AgreeLaws.{all_apart}
-use Rattle.dg_edges.proofs.EdgeLaws.{listed_by, other_same, gains_none}
+use Rattle.dg_edges.proofs.EdgeLaws.{listed_by, listing_ascends, other_same, gains_none}
 use Rattle.dg_edges.proofs.OfferLaws.{lawful_goal}
 
 -- ---- lists that differ alike
@@ -52,7 +50,7 @@ unchanged old later = record { lost = none old ∙ sym (none later); gained = no
     none true = refl
     none false = refl
 
-same_changes : (old new old' new' : List Posting) → Ascends posting_cmp old → Ascends posting_cmp new → Ascends posting_cmp old' → Ascends posting_cmp new' → ((o : Posting) → DifferAlike (has posting_cmp old o) (has posting_cmp new o) (has posting_cmp old' o) (has posting_cmp new' o)) → changes_between old new ≡ changes_between old' new'
+pub same_changes : (old new old' new' : List Posting) → Ascends posting_cmp old → Ascends posting_cmp new → Ascends posting_cmp old' → Ascends posting_cmp new' → ((o : Posting) → DifferAlike (has posting_cmp old o) (has posting_cmp new o) (has posting_cmp old' o) (has posting_cmp new' o)) → changes_between old new ≡ changes_between old' new'
 same_changes old new old' new' a b c d f =
     let lost = same_missing new old new' old' a c (λ o. (f o).lost) in
     let gained = same_missing old new old' new' b d (λ o. (f o).gained) in
@@ -64,18 +62,25 @@ both_alike old new old' new' e f = record { lost = λ i. not (f i) && e i; gaine
 pub neither_changed : (old new old' new' : Bool) → old ≡ new → old' ≡ new' → DifferAlike old new old' new'
 neither_changed old new old' new' e f = subst (λ (b : Bool). DifferAlike old b old' new') e (subst (λ (b : Bool). DifferAlike old old old' b) f (unchanged old old'))
 
--- a data key's list gains and loses alike where each triple does
-data_ascends : (schema : List PredDef) (graph : List Triple) (p : List ℕ) (s : ℕ) → IsLawful schema graph → Ascends posting_cmp (listing schema graph (keys.Data p s))
-data_ascends schema graph p s l = by (definition_of schema p)
+-- where it is neither gained nor lost before, it isn't later
+pub unmoved : (old new old' new' : Bool) → DifferAlike old new old' new' → old ≡ new → old' ≡ new'
+unmoved old new old' new' d e = by old' new' (sym d.lost ∙ ((λ i. not new && e i) ∙ none new)) (sym d.gained ∙ ((λ i. not old && sym e i) ∙ none old))
   where
-    by : (d : Option PredDef) → Ascends posting_cmp (listing_by d graph (keys.Data p s))
-    by None = tt
-    by (Some def) = objects_ascend graph p s l.ascend
+    none : (b : Bool) → (not b && b) ≡ false
+    none true = refl
+    none false = refl
 
-pub data_gains_alike : (schema : List PredDef) (old new old' new' : List Triple) (p : List ℕ) (s : ℕ) → IsLawful schema old → IsLawful schema new → IsLawful schema old' → IsLawful schema new' → ((o : Posting) → DifferAlike (has_triple old (record { s = s; p = p; o = o })) (has_triple new (record { s = s; p = p; o = o })) (has_triple old' (record { s = s; p = p; o = o })) (has_triple new' (record { s = s; p = p; o = o }))) → gains schema old new (keys.Data p s) ≡ gains schema old' new' (keys.Data p s)
+    by : (v w : Bool) → (not w && v) ≡ false → (not v && w) ≡ false → v ≡ w
+    by true true f g = refl
+    by true false f g = absurd (cc)
+    by false true f g = absurd (cc)
+    by false false f g = refl
+
+-- a data key's list gains and loses alike where each triple does
+data_gains_alike : (schema : List PredDef) (old new old' new' : List Triple) (p : List ℕ) (s : ℕ) → IsLawful schema old → IsLawful schema new → IsLawful schema old' → IsLawful schema new' → ((o : Posting) → DifferAlike (has_triple old (record { s = s; p = p; o = o })) (has_triple new (record { s = s; p = p; o = o })) (has_triple old' (record { s = s; p = p; o = o })) (has_triple new' (record { s = s; p = p; o = o }))) → gains schema old new (keys.Data p s) ≡ gains schema old' new' (keys.Data p s)
 data_gains_alike schema old new old' new' p s a b c d f =
     same_changes (listing schema old (keys.Data p s)) (listing schema new (keys.Data p s)) (listing schema old' (keys.Data p s)) (listing schema new' (keys.Data p s))
-    (data_ascends schema old p s a) (data_ascends schema new p s b) (data_ascends schema old' p s c) (data_ascends schema new' p s d)
+    (listing_ascends schema old (keys.Data p s) a.ascend) (listing_ascends schema new (keys.Data p s) b.ascend) (listing_ascends schema old' (keys.Data p s) c.ascend) (listing_ascends schema new' (keys.Data p s) d.ascend)
     (λ o. both_ends (listed_by schema old p s o a) (listed_by schema new p s o b) (listed_by schema old' p s o c) (listed_by schema new' p s o d) (f o))
   where
     both_ends : {w x y z w' x' y' z' : Bool} → w' ≡ w → x' ≡ x → y' ≡ y → z' ≡ z → DifferAlike w x y z → DifferAlike w' x' y' z'

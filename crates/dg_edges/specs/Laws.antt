@@ -1,19 +1,19 @@
 -- What holds of mutations, and of the parts and keys of changes.
-use Rattle.std.specs.Prelude.{◌≡◌, ◌≢◌, ℕ, true, false, List, [], fold, Result, Ok}
+use Rattle.std.specs.Prelude.{◌≡◌, ◌≢◌, ℕ, true, false, List, [], fold, None, Some, Result, Ok}
 use Rattle.std.specs.List.{AllByRecursion}
 use Rattle.dg_values.specs.Ascending.{ascending, has}
-use Rattle.dg_delta.specs.Ops.{changes_between}
+use Rattle.dg_values.specs.Order.{posting_cmp}
+use Rattle.dg_values.specs.declared.value.Posting.{Posting}
 use Rattle.dg_schema.specs.declared.definition.PredDef.{PredDef}
 use Rattle.dg_graph.specs.declared.change.Triple.{Triple}
 use Rattle.dg_graph.specs.declared.change.Change.{Change}
 use Rattle.dg_graph.specs.Graphs.{after_changes, IsLawful}
 use Rattle.dg_graph.specs.Changes.{has_triple, AllFit}
 use Rattle.dg_keys.specs.declared.conflict.ConflictKey.{ConflictKey}
-use Rattle.dg_keys.specs.declared.key.Key.TheVariants.{Data}
+use Rattle.dg_keys.specs.declared.key.Key.{Key}
 use Rattle.dg_keys.specs.declared.record.Part.{Part}
 use Rattle.dg_keys.specs.declared.record.Record.{Record}
-use Rattle.dg_keys.specs.Keys.{ops_at}
-use Rattle.dg_zero.specs.Worlds.{changes_of, world, schema, schema_at}
+use Rattle.dg_zero.specs.Worlds.{changes_of, world, world_at, schema}
 use Rattle.dg_keys.specs.Conflicts.{conflict_cmp}
 use Rattle.dg_zero.specs.Listings.{AreGainsAndLosses, conflict_keys, listing}
 use Rattle.dg_zero.specs.declared.entry.Entry.{Entry}
@@ -21,12 +21,16 @@ use Rattle.dg_zero.specs.declared.entry.Event.TheVariants.{Commit}
 use Rattle.dg_zero.specs.Exact.{AreExact, IsExactNow}
 use Rattle.dg_zero.specs.Legal.{FitsCommit, IsLegal}
 use Rattle.dg_zero.specs.Offers.{IsSound, IsMadeOf}
+use Rattle.dg_zero.specs.Counters.{active, is_active_of}
+use Rattle.dg_zero.specs.Verdicts.{commits}
+use Rattle.dg_oracle.specs.Verdicts.{HasNoClash}
 use Rattle.dg_nquad.specs.declared.mutation.Statement.{Statement}
 use Rattle.dg_edges.specs.declared.edge.Edge.{Edge}
 use Rattle.dg_edges.specs.declared.fault.EdgeFault.{EdgeFault}
 use Rattle.dg_edges.specs.Resolving.{Resolves}
 use Rattle.dg_edges.specs.Expanding.{expanded}
 use Rattle.dg_edges.specs.Deltas.{deltas, data_conflict, data_conflicts, preds_of, IsPlain, AreFitting}
+use Rattle.dg_edges.specs.Regions.{triple_keys, AgreeIn, listing_conflict}
 
 -- the parts of changes are exactly what lists gain and lose by them
 abbrev pub DeltasAgree : Type 0
@@ -90,21 +94,29 @@ CommitsDoAsChanges = (schema : List PredDef) (graph : List Triple) (changes : Li
 abbrev pub CommitsDoAsAsked : Type 0
 CommitsDoAsAsked = (n : ℕ) (history : List Entry) (author start : ℕ) (preds : List (List ℕ)) (keys : List ConflictKey) (asked : List Change) (written : Record) → IsLegal n history → FitsCommit history author start preds keys asked written → after_changes (schema history) (world history).graph asked ≡ after_changes (schema history) (world history).graph (changes_of written.parts)
 
--- at a data key, the parts are what the list gains and loses by them in the present graph
-abbrev pub IsExactAtData : List Entry → List Part → List ℕ → ℕ → Type 0
-IsExactAtData history parts p s = ops_at parts (Data p s) ≡ changes_between (listing (schema history) (world history).graph (Data p s)) (listing (schema history) (after_changes (schema history) (world history).graph (changes_of parts)) (Data p s))
+-- changes conflict by each key of each triple that they change
+abbrev pub ChangesAreNamed : Type 0
+ChangesAreNamed = (schema : List PredDef) (graph : List Triple) (changes : List Change) (t : Triple) → (has_triple graph t ≡ has_triple (after_changes schema graph changes) t → ⊥) → AllByRecursion (λ key. has conflict_cmp (conflict_keys schema graph changes) key ≡ true) (triple_keys schema t)
 
--- so they are at each data key, for a commit that fits
-abbrev pub DataPartsAreExact : Type 0
-DataPartsAreExact = (n : ℕ) (history : List Entry) (author start : ℕ) (preds : List (List ℕ)) (keys : List ConflictKey) (asked : List Change) (written : Record) → IsLegal n history → FitsCommit history author start preds keys asked written → (p : List ℕ) (s : ℕ) → IsExactAtData history written.parts p s
+-- lists hold a posting alike, in graphs that have the same triples of the conflict key that it depends on
+abbrev pub ListsByKeys : Type 0
+ListsByKeys = (schema : List PredDef) (graph later : List Triple) (key : Key) (posting : Posting) (conflict : ConflictKey) → IsLawful schema graph → IsLawful schema later → listing_conflict schema key posting ≡ Some conflict → AgreeIn schema conflict graph later → has posting_cmp (listing schema graph key) posting ≡ has posting_cmp (listing schema later key) posting
 
--- and at each key of any kind, where no definition has an index, reverse or count
+-- a posting that depends on no conflict key isn't listed
+abbrev pub OthersUnlisted : Type 0
+OthersUnlisted = (schema : List PredDef) (graph : List Triple) (key : Key) (posting : Posting) → listing_conflict schema key posting ≡ None → has posting_cmp (listing schema graph key) posting ≡ false
+
+-- in a legal history, the triples of a key that no commit since an active start has are what they were at the start
+abbrev pub KeysStandStill : Type 0
+KeysStandStill = (n : ℕ) (history : List Entry) (start author : ℕ) (key : ConflictKey) → IsLegal n history → is_active_of (active history) start author ≡ true → HasNoClash conflict_cmp (commits history) start key → AgreeIn (schema history) key (world_at history start).graph (world history).graph
+
+-- so the parts of a commit that fits are at each key what the list gains and loses in the present graph
 abbrev pub CommitsAreExact : Type 0
-CommitsAreExact = (n : ℕ) (history : List Entry) (author start : ℕ) (preds : List (List ℕ)) (keys : List ConflictKey) (asked : List Change) (written : Record) → IsLegal n history → IsPlain (schema history) → FitsCommit history author start preds keys asked written → IsExactNow history (Commit start preds keys asked written)
+CommitsAreExact = (n : ℕ) (history : List Entry) (author start : ℕ) (preds : List (List ℕ)) (keys : List ConflictKey) (asked : List Change) (written : Record) → IsLegal n history → FitsCommit history author start preds keys asked written → IsExactNow history (Commit start preds keys asked written)
 
--- so all records of a legal history are, where no definition at any timestamp has an index, reverse or count
-abbrev pub PlainHistoriesAreExact : Type 0
-PlainHistoriesAreExact = (n : ℕ) (history : List Entry) → IsLegal n history → ((at : ℕ) → IsPlain (schema_at history at)) → AreExact history
+-- so are all records of a legal history
+abbrev pub HistoriesAreExact : Type 0
+HistoriesAreExact = (n : ℕ) (history : List Entry) → IsLegal n history → AreExact history
 
 -- what a sound offer's data parts put in fits the schema, whatever its other keys; so they keep a later graph lawful
 abbrev pub SoundFits : Type 0

@@ -1,55 +1,105 @@
 // The keys by which changes conflict, and their predicates.
-ghost use Rattle.std.specs.Prelude.{◌≡◌, IfOk};
-ghost use Rattle.dg_values.specs.Ascending.{ascending};
-ghost use Rattle.dg_keys.specs.Conflicts.{conflict_cmp};
+ghost use Rattle.std.specs.Prelude.{◌≡◌, ◌+◌, ◌++◌, [], true, List, IfOk, OnOk, map, length};
+ghost use Rattle.std.specs.List.{AllByRecursion};
+ghost use Rattle.dg_values.specs.Ascending.{Ascends, has};
+ghost use Rattle.dg_values.specs.declared.value.Posting.{Posting};
+ghost use Rattle.dg_schema.specs.Definitions.{definition_of};
+ghost use Rattle.dg_graph.specs.Changes.{changed};
+ghost use Rattle.dg_keys.specs.declared.key.Key.{Key};
+ghost use Rattle.dg_keys.specs.Keys.{key_cmp};
 ghost use Rattle.dg_zero.specs.Listings as listings;
+ghost use Rattle.dg_zero.specs.Listings.{keys_of_changes};
 ghost use Rattle.dg_edges.specs.Deltas as definitions;
-ghost use Rattle.dg_edges.specs.Deltas.{data_conflict, data_conflicts, IsPlain, AreFitting};
+ghost use Rattle.dg_edges.specs.Deltas.{data_key, IsPlain};
+ghost use Rattle.dg_edges.specs.Replaced as changing;
+ghost use Rattle.dg_edges.specs.Replaced.{read_key, kept_after, keys_by};
 
-use dg_graph::{Change, Snapshot, Triple, is_single};
-use dg_keys::ConflictKey;
+use crate::lists::key_of;
+use crate::replaced::{change_at, objects_in, objects_of, read_keys, replaced};
+use crate::touched::push_keys;
+use dg_graph::{Change, Snapshot};
+use dg_keys::{ConflictKey, Key};
 use dg_schema::Schema;
 use dg_sets::{in_order, put};
-use dg_values::{Mem, OutOfMemory, Steps, Str};
+use dg_values::{List, Mem, OutOfMemory, Posting, Steps, Str};
 use std::alloc::Global;
 use std::sync::ledger::Ledger;
 
-// The key by which changes of a triple conflict.
-fn conflict_of(alloc: Global, schema: &Schema, t: &Triple) -> Mem<ConflictKey>
-    ensures { IfOk result (λ key. key ≡ data_conflict schema.now t.now) }
+// Adds the keys of a change, by the objects of its subject; of an undeclared predicate it has none.
+fn push_change(
+    alloc: Global,
+    schema: &Schema,
+    change: &Change,
+    objects: &[Posting],
+    found: &mut Vec<ConflictKey>,
+) -> Mem<()>
+    ensures { OnOk result (found.new.items ≡ found.old.items ++ keys_by (definition_of schema.now (changed change.now).p) objects.now change.now) }
 {
-    let p = t.p.copy(alloc)?;
-    if is_single(schema, t.p.as_str()) {
-        return Ok(ConflictKey::Data { p, s: t.s, o: None });
+    let triple = change.triple();
+    match schema.lookup(triple.p.as_str()) {
+        Some(def) => push_keys(alloc, def, triple, replaced(def, objects, change), found),
+        None => Ok(()),
     }
-    let o = Some(t.o.copy(alloc)?);
-    Ok(ConflictKey::Data { p, s: t.s, o })
 }
 
-// The keys of changes, ascending.
-fn conflicts_of(alloc: Global, schema: &Schema, changes: &[Change]) -> Mem<Vec<ConflictKey>>
-    ensures { IfOk result (λ v. v.items ≡ ascending conflict_cmp (data_conflicts schema.now changes.now)) }
+// Adds the keys of a change, and makes it of the objects of the subjects that were read.
+fn push_next(
+    alloc: Global,
+    schema: &Schema,
+    keys: &[Key],
+    lists: &mut Vec<List<Posting>>,
+    change: &Change,
+    found: &mut Vec<ConflictKey>,
+) -> Mem<()>
+    requires ascend { Ascends key_cmp keys.now }
+    requires each { length lists.old.items ≡ length keys.now }
+    requires there { AllByRecursion (λ k. has key_cmp keys.now k ≡ true) (read_key schema.now change.now) }
+    ensures lists { (f : Key → List Posting) → lists.old.items ≡ map f keys.now → OnOk result (lists.new.items ≡ map (λ k. kept_after change.now k (f k)) keys.now) }
+    ensures found { (f : Key → List Posting) → lists.old.items ≡ map f keys.now → OnOk result (found.new.items ≡ found.old.items ++ keys_by (definition_of schema.now (changed change.now).p) (f (data_key change.now)) change.now) }
 {
-    let mut keys = Vec::with_capacity(alloc, changes.len())?;
+    let key = key_of(alloc, change)?;
+    let objects = objects_in(keys, lists.as_slice(), &key);
+    push_change(alloc, schema, change, objects, found)?;
+    change_at(alloc, keys, lists, &key, change)
+}
+
+// The keys of changes in turn, where these are the subjects whose objects they have to know.
+fn keys_in_turn<S: Snapshot, L: Ledger>(
+    alloc: Global,
+    snap: &S,
+    keys: &[Key],
+    changes: &[Change],
+    reads: &mut Steps<L>,
+) -> Mem<Vec<ConflictKey>>
+    requires keys { keys.now ≡ changing.read_keys (S.declared snap.now) changes.now }
+    ensures keys { IfOk result (λ v. v.items ≡ keys_of_changes (S.declared snap.now) (S.graph snap.now) changes.now) }
+    ensures reads { OnOk result (reads.new ≡ reads.old + length (changing.read_keys (S.declared snap.now) changes.now)) }
+    ensures none { keys.now ≡ [] → reads.new ≡ reads.old }
+{
+    let mut lists = objects_of(alloc, snap, keys, reads)?;
+    let mut found = Vec::with_capacity(alloc, changes.len())?;
     for change in changes {
-        keys.push(conflict_of(alloc, schema, change.triple())?)?;
+        push_next(alloc, snap.schema(), keys, &mut lists, change, &mut found)?;
     }
-    Ok(in_order(keys))
+    Ok(found)
 }
 
-/// The keys by which changes conflict, ascending and each once. It reads no list. The error is want of memory.
+/// The keys by which changes conflict, ascending and each once. Of each subject it reads the objects once, where a change
+/// takes the place of them and they have keys; where no predicate has index, reverse or count, it reads none. The error is
+/// want of memory.
 pub fn conflict_keys<S: Snapshot, L: Ledger>(
     alloc: Global,
     snap: &S,
     changes: &[Change],
-    _reads: &mut Steps<L>,
+    reads: &mut Steps<L>,
 ) -> Mem<Vec<ConflictKey>>
-    requires plain { IsPlain (S.declared snap.now) }
-    requires fitting { AreFitting (S.declared snap.now) changes.now }
     ensures keys { IfOk result (λ v. v.items ≡ listings.conflict_keys (S.declared snap.now) (S.graph snap.now) changes.now) }
-    ensures reads { _reads.new ≡ _reads.old }
+    ensures reads { OnOk result (reads.new ≡ reads.old + length (changing.read_keys (S.declared snap.now) changes.now)) }
+    ensures plain { IsPlain (S.declared snap.now) → reads.new ≡ reads.old }
 {
-    conflicts_of(alloc, snap.schema(), changes)
+    let keys = read_keys(alloc, snap.schema(), changes)?;
+    let found = keys_in_turn(alloc, snap, keys.as_slice(), changes, reads)?;
+    Ok(in_order(found))
 }
 
 /// The predicates of changes, ascending and each once. The error is want of memory.

@@ -13,7 +13,9 @@ mod lists;
 mod names;
 mod offer;
 mod plain;
+mod replaced;
 mod resolving;
+mod touched;
 
 pub use conflicts::{conflict_keys, preds_of};
 pub use deltas::deltas_of;
@@ -21,7 +23,9 @@ pub use differing::between;
 pub use edge::{Edge, Named, Resolved, Target};
 pub use expanding::expand;
 pub use fault::EdgeFault;
-pub use laws::{changes_as_parts, commits_as_changes, mutations, offers, plain_histories};
+pub use laws::{
+    changes_as_parts, commits_as_changes, exact_histories, mutations, named_triples, offers,
+};
 pub use offer::{copies, offer_of};
 pub use plain::{are_fitting, is_plain};
 pub use resolving::resolve;

@@ -55,7 +55,7 @@ impl Objects {
 }
 
 // The key of the subject that a change is of.
-fn key_of(alloc: Global, change: &Change) -> Mem<Key>
+pub fn key_of(alloc: Global, change: &Change) -> Mem<Key>
     ensures { IfOk result (λ key. key ≡ data_key change.now) }
 {
     let triple = change.triple();
@@ -88,7 +88,7 @@ fn copies(alloc: Global, postings: &[Posting]) -> Mem<Vec<Posting>>
 }
 
 // The objects at a key.
-fn objects_at<S: Snapshot, L: Ledger>(
+pub fn objects_at<S: Snapshot, L: Ledger>(
     alloc: Global,
     snap: &S,
     key: &Key,

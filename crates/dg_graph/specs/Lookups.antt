@@ -1,5 +1,5 @@
 -- What is looked up in a graph beside the objects of a subject: nodes by their objects, by tokens and by numbers.
-use Rattle.std.specs.Prelude.{ℕ, Bool, true, ◌&&◌, ◌==◌, List, [], fold, map, filter, length}
+use Rattle.std.specs.Prelude.{ℕ, Bool, true, false, ◌&&◌, ◌==◌, List, [], fold, map, filter, length}
 use Rattle.std.specs.Ordering.{nat_cmp, is_eq}
 use Rattle.dg_values.specs.Ascending.{with_one, has}
 use Rattle.dg_values.specs.Order.{posting_cmp, tokenizer_cmp}
@@ -42,6 +42,11 @@ has_tokenizer def tokenizer = has tokenizer_cmp def.tokens tokenizer
 abbrev pub with_objects : List Triple → List ℕ → ℕ → List ℕ
 with_objects graph p n = filter (λ s. length (objects graph p s) == n) (subjects_where (λ o. true) graph p)
 
+-- the object is a node
+abbrev pub is_node : Posting → Bool
+is_node (Uid n) = true
+is_node (Val value) = false
+
 -- the nodes that exactly n subjects point to, ascending
 abbrev pub with_subjects : List Triple → List ℕ → ℕ → List Posting
-with_subjects graph p n = filter (λ o. length (subjects_of graph p o) == n) (all_objects graph p)
+with_subjects graph p n = filter (λ o. is_node o && (length (subjects_of graph p o) == n)) (all_objects graph p)

@@ -20,7 +20,7 @@ use Rattle.dg_schema.specs.declared.definition.PredDef.{PredDef}
 use Rattle.dg_schema.specs.Definitions.{definition_of}
 use Rattle.dg_graph.specs.declared.change.Triple.{Triple}
 use Rattle.dg_graph.specs.Graphs.{triple_cmp, is_of, objects}
-use Rattle.dg_graph.specs.Lookups.{subjects_where, subjects_of, all_objects, with_objects, with_subjects, has_token, has_tokenizer}
+use Rattle.dg_graph.specs.Lookups.{subjects_where, subjects_of, all_objects, with_objects, with_subjects, is_node, has_token, has_tokenizer}
 use Rattle.dg_graph.proofs.ObjectLaws.{objects_ascend}
 use Rattle.dg_keys.specs.declared.key.Key.{Key}
 use Rattle.dg_keys.specs.declared.key.Key.TheVariants.{Data, Index, Reverse, Count, RCount}
@@ -133,4 +133,4 @@ listing_ascends schema graph key a = by (definition_of schema (pred_of key)) key
     by (Some def) (Count p n) =
         if_ascends (def.count && nat_le 1 n) (nodes (with_objects graph p n)) (nodes_ascend (with_objects graph p n) (ascends_passed nat_cmp nat_order (λ (s : ℕ). length (objects graph p s) == n) (subjects_where (λ o. true) graph p) (subjects_ascend (λ o. true) graph p)))
     by (Some def) (RCount p n) =
-        if_ascends (def.reverse && (def.count && nat_le 1 n)) (with_subjects graph p n) (ascends_passed posting_cmp posting_order (λ (o : Posting). length (subjects_of graph p o) == n) (all_objects graph p) (ascends_more posting_cmp posting_order [] (map (λ (t : Triple). t.o) (filter (is_of p) graph)) tt))
+        if_ascends (def.reverse && (def.count && nat_le 1 n)) (with_subjects graph p n) (ascends_passed posting_cmp posting_order (λ (o : Posting). is_node o && (length (subjects_of graph p o) == n)) (all_objects graph p) (ascends_more posting_cmp posting_order [] (map (λ (t : Triple). t.o) (filter (is_of p) graph)) tt))

@@ -3,9 +3,9 @@ pub mod Lists
 pub mod Leads
 pub mod Between
 mod Copies
-mod Applied
+pub mod Applied
 pub mod Entries
 mod Tablets
-mod Alters
+pub mod Alters
 mod CopyPlaces
 mod Whole

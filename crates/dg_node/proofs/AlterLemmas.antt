@@ -1,35 +1,25 @@
--- An alter of definitions without directives changes no list.
+-- When an alter of definitions without directives goes through.
 use Rattle.std.proofs.Common.{◌≡◌, ℕ, ◌≤◌, Bool, true, false, cond, not, List, [], ◌∷◌, Option, Some, None, refl, ap, subst, sym, ◌∙◌, arith, true≢false}
 use Rattle.std.specs.Prelude.{◌==◌, ◌&&◌, ◌||◌, nat_lt, fold, map, min, length, find, option_map}
 use Rattle.std.specs.Bool.{beq}
 use Rattle.std.specs.List.{AllByRecursion, list_any}
-use Rattle.std.specs.Option.{option_or, option_map_or}
+use Rattle.std.specs.Option.{option_map_or}
 use Rattle.std.proofs.lemmas.Grind.{common_steps}
-use Rattle.dg_values.specs.Order.{same_text}
 use Rattle.dg_values.specs.declared.kind.Tokenizer.{Tokenizer}
-use Rattle.dg_delta.specs.Ops.{changes_between}
 use Rattle.dg_schema.specs.declared.definition.PredDef.{PredDef}
-use Rattle.dg_schema.specs.Definitions.{definition_of, with_definitions, AreDistinct}
-use Rattle.dg_schema.proofs.Joining.{definition_joined}
+use Rattle.dg_schema.specs.Definitions.{definition_of}
 use Rattle.dg_graph.specs.declared.change.Triple.{Triple}
-use Rattle.dg_graph.specs.Graphs.{is_of, is_of_subject, fits, fits_by, objects}
-use Rattle.dg_graph.proofs.GraphLaws.{same_subject}
-use Rattle.dg_keys.specs.declared.key.Key.{Key}
-use Rattle.dg_keys.specs.declared.key.Key.TheVariants.{Data, Index, Reverse, Count, RCount}
-use Rattle.dg_keys.specs.Keys.{pred_of}
+use Rattle.dg_graph.specs.Graphs.{is_of}
 use Rattle.dg_edges.specs.Deltas.{IsPlain, IsPlainDefinition}
 use Rattle.dg_oracle.specs.Commits as oracle
-use Rattle.dg_zero.specs.Listings.{listing, listing_by}
 use Rattle.dg_zero.specs.declared.tablets.Phase.TheVariants.{Idle}
 use Rattle.dg_zero.specs.declared.tablets.Place.{Place}
 use Rattle.dg_zero.specs.Places.{is_held}
-use Rattle.dg_zero.specs.States.{Zero, AreAlterParts, IsLeastStart, first_held}
+use Rattle.dg_zero.specs.States.{Zero, IsLeastStart, first_held}
 use Rattle.dg_zero.specs.Legal.{KeepsKind, kind_rank}
 use Rattle.dg_zero.specs.Counters.{active, starts_of, line}
 use Rattle.dg_zero.specs.Worlds.{World, world, world_at, schema}
 use Rattle.dg_zero.proofs.AlterKeeps.{none_first_held}
-use Rattle.dg_zero.proofs.EmptyOffers.{no_changes}
-use Rattle.dg_zero.proofs.LawfulGraphs.{present_lawful}
 use Rattle.dg_zero.proofs.LawsOfHistories.{line_stays_below, present_is_last}
 use Rattle.dg_zero.proofs.Refusals.{not_held}
 use Rattle.dg_node.specs.declared.engine.Opened.{Opened}
@@ -70,67 +60,6 @@ pub plain_all : (ds : List PredDef) → list_any has_directive ds ≡ false → 
 plain_all [] e = tt
 plain_all (d ∷ ds) e =
     (plain_one d (or_first (has_directive d) (list_any has_directive ds) e), plain_all ds (or_second (has_directive d) (list_any has_directive ds) e))
-
--- what is found among plain definitions is plain
-found_plain : (ds : List PredDef) (p : List ℕ) (d : PredDef) → IsPlain ds → definition_of ds p ≡ Some d → IsPlainDefinition d
-found_plain [] p d a e = absurd (cc)
-found_plain (first ∷ ds) p d a e = by (same_text first.name p) refl e (found_plain ds p d a.1)
-  where
-    by : (v : Bool) → same_text first.name p ≡ v → cond v (Some first) (definition_of ds p) ≡ Some d → (definition_of ds p ≡ Some d → IsPlainDefinition d) → IsPlainDefinition d
-    by true same h more = let it : first ≡ d = cc in subst IsPlainDefinition it a.0
-    by false same h more = more h
-
--- ---- they change no list
-
--- a predicate that isn't declared has no object
-none_listed : (schema : List PredDef) (graph : List Triple) (p : List ℕ) (s : ℕ) → definition_of schema p ≡ None → AllByRecursion (λ t. fits schema t ≡ true) graph → objects graph p s ≡ []
-none_listed schema [] p s none a = refl
-none_listed schema (t ∷ graph) p s none a =
-    let other : is_of_subject p s t ≡ false = by (is_of_subject p s t) refl in
-    rw other (none_listed schema graph p s none a.1)
-  where
-    by : (v : Bool) → is_of_subject p s t ≡ v → v ≡ false
-    by true e =
-        let missing : definition_of schema t.p ≡ None = ap (definition_of schema) (same_subject p s t e).0 ∙ none in
-        let no : fits_by None t ≡ true = subst (λ (o : Option PredDef). fits_by o t ≡ true) missing a.0 in
-        absurd (cc)
-    by false e = refl
-
--- nor does its key list anything once it is declared
-newly_listed : (schema : List PredDef) (graph : List Triple) (d : PredDef) (key : Key) → IsPlainDefinition d → definition_of schema (pred_of key) ≡ None → AllByRecursion (λ t. fits schema t ≡ true) graph → listing_by (Some d) graph key ≡ []
-newly_listed schema graph d (Data p s) plain none a = none_listed schema graph p s none a
-newly_listed schema graph d (Index p t) plain none a = rw plain.0 refl
-newly_listed schema graph d (Reverse p o) plain none a = rw plain.1 refl
-newly_listed schema graph d (Count p n) plain none a = rw plain.2 refl
-newly_listed schema graph d (RCount p n) plain none a = rw plain.1 refl
-
--- and plain definitions of one name list the same
-both_listed : (graph : List Triple) (d old : PredDef) (key : Key) → IsPlainDefinition d → IsPlainDefinition old → listing_by (Some d) graph key ≡ listing_by (Some old) graph key
-both_listed graph d old (Data p s) plain older = refl
-both_listed graph d old (Index p t) plain older = rw (plain.0, older.0) refl
-both_listed graph d old (Reverse p o) plain older = rw (plain.1, older.1) refl
-both_listed graph d old (Count p n) plain older = rw (plain.2, older.2) refl
-both_listed graph d old (RCount p n) plain older = rw (plain.1, older.1) refl
-
-listing_stays : (schema newer : List PredDef) (graph : List Triple) (key : Key) → AreDistinct newer → IsPlain newer → IsPlain schema → AllByRecursion (λ t. fits schema t ≡ true) graph → listing_by (definition_of schema (pred_of key)) graph key ≡ listing_by (definition_of (with_definitions schema newer) (pred_of key)) graph key
-listing_stays schema newer graph key distinct plain older fit =
-    sym (ap (λ (o : Option PredDef). listing_by o graph key) (definition_joined schema newer (pred_of key) distinct) ∙ by (definition_of newer (pred_of key)) refl)
-  where
-    among : (d : PredDef) → IsPlainDefinition d → (o : Option PredDef) → definition_of schema (pred_of key) ≡ o → listing_by (Some d) graph key ≡ listing_by o graph key
-    among d is None none = newly_listed schema graph d key is none fit
-    among d is (Some old) there = both_listed graph d old key is (found_plain schema (pred_of key) old older there)
-
-    by : (o : Option PredDef) → definition_of newer (pred_of key) ≡ o → listing_by (option_or o (definition_of schema (pred_of key))) graph key ≡ listing_by (definition_of schema (pred_of key)) graph key
-    by None e = refl
-    by (Some d) e = among d (found_plain newer (pred_of key) d plain e) (definition_of schema (pred_of key)) refl
-
-pub no_alter_parts : (z : Zero) (os : List Opened) (newer : List PredDef) → IsKept z os → AreDistinct newer → IsPlain newer → AreAlterParts z.history newer []
-no_alter_parts z os newer k distinct plain =
-    let fit = (present_lawful z.groups z.history k.legal).fit in
-    record {
-      parts_are = record { ascend = tt; each = tt };
-      exact = λ key. sym (ap (changes_between (listing (schema z.history) (world z.history).graph key)) (sym (listing_stays (schema z.history) newer (world z.history).graph key distinct plain k.plain fit)) ∙ no_changes (listing (schema z.history) (world z.history).graph key));
-    }
 
 -- ---- where no data stands in the way, kinds are kept
 
@@ -173,11 +102,11 @@ kinds_kept declared graph (d ∷ newer) e = by (has_data declared graph d) refl 
 
 -- ---- the least start of open transactions
 
-fold_least : (x low : ℕ) (os : List Opened) → x ≤ low → oracle.Ascends low (map (λ (o : Opened). o.start) os) → fold (λ least (s : Session). min least s.start) x (map session_from os) ≡ x
+fold_least : (x low : ℕ) (os : List Opened) → x ≤ low → oracle.Ascends low (map (λ (o : Opened). o.txn.start) os) → fold (λ least (s : Session). min least s.start) x (map session_from os) ≡ x
 fold_least x low [] le a = refl
 fold_least x low (o ∷ os) le a =
-    let same : min x o.start ≡ x = omega (arith, le, a.0) in
-    ap (λ (y : ℕ). fold (λ least (s : Session). min least s.start) y (map session_from os)) same ∙ fold_least x o.start os (omega (arith, le, a.0)) a.1
+    let same : min x o.txn.start ≡ x = omega (arith, le, a.0) in
+    ap (λ (y : ℕ). fold (λ least (s : Session). min least s.start) y (map session_from os)) same ∙ fold_least x o.txn.start os (omega (arith, le, a.0)) a.1
 
 not_among : (start low : ℕ) (xs : List ℕ) → start ≤ low → oracle.Ascends low xs → oracle.is_active xs start ≡ false
 not_among start low [] le a = refl
@@ -195,14 +124,14 @@ first_is start x low xs le a found = by (x == start) refl found
 pub least_open : (z : Zero) (os : List Opened) (start : ℕ) → IsKept z os → IsLeastStart z.history start → least_start (map session_from os) ≡ Some start
 least_open z os start k is = by os (starts_of_open z os k)
   where
-    by : (ps : List Opened) → starts_of (active z.history) ≡ map (λ (o : Opened). o.start) ps → least_start (map session_from ps) ≡ Some start
+    by : (ps : List Opened) → starts_of (active z.history) ≡ map (λ (o : Opened). o.txn.start) ps → least_start (map session_from ps) ≡ Some start
     by [] e = let no : oracle.is_active [] start ≡ true = subst (λ (xs : List ℕ). oracle.is_active xs start ≡ true) e is.found in absurd (cc)
     by (o ∷ ps) e =
         let found = subst (λ (xs : List ℕ). oracle.is_active xs start ≡ true) e is.found in
         let least = subst (λ (xs : List ℕ). AllByRecursion (λ s. start ≤ s) xs) e is.least in
         let ascend = subst (λ (xs : List ℕ). oracle.Ascends (line z.history) xs) e (line_stays_below z.groups z.history k.legal).starts in
-        let first : o.start ≡ start = first_is start o.start (line z.history) (map (λ (p : Opened). p.start) ps) least.0 ascend found in
-        ap (λ (x : ℕ). Some x) (fold_least o.start o.start ps (omega arith) ascend.1 ∙ first)
+        let first : o.txn.start ≡ start = first_is start o.txn.start (line z.history) (map (λ (p : Opened). p.txn.start) ps) least.0 ascend found in
+        ap (λ (x : ℕ). Some x) (fold_least o.txn.start o.txn.start ps (omega arith) ascend.1 ∙ first)
 
 -- ---- the machine's present schema and graph
 

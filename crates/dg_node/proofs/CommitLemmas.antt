@@ -89,6 +89,10 @@ no_moving keys (verdicts.Conflict at ts) pred e = by (slice_get keys at) e
     by None e = absurd (cc)
     by (Some k) e = absurd (cc)
 
+-- the text of the key of a conflict
+pub clash_there : (keys : List ConflictKey) (v : Verdict) (at ts : ℕ) (key : ConflictKey) → v ≡ verdicts.Conflict at ts → slice_get keys at ≡ Some key → clash_text keys v ≡ conflict_text key
+clash_there keys v at ts key e f = ap (clash_text keys) e ∙ ap (λ (o : Option ConflictKey). option_map_or conflict_text o []) f
+
 -- ---- an offer of an open transaction
 
 module _ (z : Zero) (os before after : List Opened) (o : Opened) (k : IsKept z os) (e : os ≡ before ++ o ∷ after) (offer : Offer) (is : IsOfferOf z.history o offer) where
@@ -96,8 +100,8 @@ module _ (z : Zero) (os before after : List Opened) (o : Opened) (k : IsKept z o
   opened = opened_here z os before after o k e
 
   -- its keys are those of the transaction's changes
-  its_keys : offer.keys ≡ conflict_keys (schema_at z.history o.start) (graph_at z.history o.start []) o.own
-  its_keys = is.made_of.keys_are ∙ ap (conflict_keys (schema_at z.history o.start) (graph_at z.history o.start [])) is.changes_are
+  its_keys : offer.keys ≡ conflict_keys (schema_at z.history o.txn.start) (graph_at z.history o.txn.start []) o.txn.own
+  its_keys = is.made_of.keys_are ∙ ap (conflict_keys (schema_at z.history o.txn.start) (graph_at z.history o.txn.start [])) is.changes_are
 
   judged : Option Reason
   judged = conflict offer.keys (verdict conflict_cmp (commits z.history) offer.start offer.keys)
@@ -111,15 +115,15 @@ module _ (z : Zero) (os before after : List Opened) (o : Opened) (k : IsKept z o
 
   -- the machine's verdict is the one of Zero
   module _ (m : Machine) (s : StandFor z os m) where
-    keys_there : keys_at m o.start o.own ≡ offer.keys
+    keys_there : keys_at m o.txn.start o.txn.own ≡ offer.keys
     keys_there =
-        let schema_is : machines.schema_at m.alters o.start ≡ schema_at z.history o.start = ap (λ (alts : List Alter). machines.schema_at alts o.start) s.alters_are ∙ schemas_are z.history o.start in
-        let graph_is : committed_at m.alters m.commits o.start ≡ graph_at z.history o.start [] = s.graphs_are o.start in
-        (λ i. conflict_keys (schema_is i) (graph_is i) o.own) ∙ sym its_keys
+        let schema_is : machines.schema_at m.alters o.txn.start ≡ schema_at z.history o.txn.start = ap (λ (alts : List Alter). machines.schema_at alts o.txn.start) s.alters_are ∙ schemas_are z.history o.txn.start in
+        let graph_is : committed_at m.alters m.commits o.txn.start ≡ graph_at z.history o.txn.start [] = s.graphs_are o.txn.start in
+        (λ i. conflict_keys (schema_is i) (graph_is i) o.txn.own) ∙ sym its_keys
 
     clash_is : clash_of m (session_from o) ≡ refusal_by offer.keys (verdict conflict_cmp (commits z.history) offer.start offer.keys)
     clash_is =
-        let start_there : o.start ≡ offer.start = sym is.start_is in
+        let start_there : o.txn.start ≡ offer.start = sym is.start_is in
         λ i. refusal_by (keys_there i) (verdict conflict_cmp (s.keys_are i) (start_there i) (keys_there i))
 
     pub clear : zeros.verdict z.history offer.start offer.preds offer.keys ≡ None → clash_of m (session_from o) ≡ None
@@ -130,15 +134,15 @@ module _ (z : Zero) (os before after : List Opened) (o : Opened) (k : IsKept z o
         clash_is ∙ (refusal_some offer.keys (verdict conflict_cmp (commits z.history) offer.start offer.keys) key ts (sym idle_verdict ∙ h) ∙ ap (λ (l : List ℕ). Some (refusals.Conflict ts l)) (sym t))
 
     -- where it is clear, its parts do what its changes do
-    pub committed_as : zeros.verdict z.history offer.start offer.preds offer.keys ≡ None → next z.history < 2 ^ 62 → IsCommittedAs z os m s 0 o.start o.own offer
+    pub committed_as : zeros.verdict z.history offer.start offer.preds offer.keys ≡ None → next z.history < 2 ^ 62 → IsCommittedAs z os m s 0 o.txn.start o.txn.own offer
     committed_as h lt = record {
       legal = k.legal;
       start_is = is.start_is;
       changes_same = is.changes_are;
-      start_drawn = subst (λ (n : ℕ). o.start < n) (sym s.next_is) opened.drawn;
+      start_drawn = subst (λ (n : ℕ). o.txn.start < n) (sym s.next_is) opened.drawn;
       keys_same = its_keys;
       parts_do = ap (after_changes (schema z.history) (world z.history).graph) (sym is.changes_are)
-          ∙ commits_do_as_asked z.groups z.history 0 o.start offer.preds offer.keys offer.changes (record { ts = next z.history; fresh = []; parts = offer.parts }) k.legal (record {
+          ∙ commits_do_as_asked z.groups z.history 0 o.txn.start offer.preds offer.keys offer.changes (record { ts = next z.history; fresh = []; parts = offer.parts }) k.legal (record {
             active = active_here z os before after o k e;
             ts = refl;
             drawn = lt;

@@ -31,12 +31,18 @@ spares_all r m = refl
 pub step_made : (before after : Held) (r : Request) (p : Reply) → Leads before (λ m n. Outcome m r p n) after → Leads before (λ m n. Step m r p n) after
 step_made before after r p leads = leads_by before after (λ m n. Outcome m r p n) (λ m n. Step m r p n) (λ m n o. inl o) leads
 
-pub step_spared : (before after : Held) (r : Request) → Stays before after → MayWant before r → Leads before (λ m n. Step m r (replies.Refused refusals.Memory) n) after
-step_spared before after r stays wants =
-    record {
-      leads = subst (λ (n : Machine). Step (machine_of before) r (replies.Refused refusals.Memory) n) (sym stays)
-          (inr (record { takes = wants; free = refl; spared = spares_all r (machine_of before) }));
-    }
+-- memory was wanting, and no more was left than may be then
+pub step_spared : (before after : Held) (r : Request) → Leads before (λ m n. Spares r m n) after → MayWant before r → Leads before (λ m n. Step m r (replies.Refused refusals.Memory) n) after
+step_spared before after r leads wants =
+    record { leads = inr (record { takes = wants; free = refl; spared = leads.leads }) }
+
+-- where the machine stays, no more is left
+pub err_spared : {A E : Type 0} (r : Result A E) (before after : Held) (request : Request) → OnErr r (Stays before after) → OnErr r (Leads before (λ m n. Spares request m n) after)
+err_spared (Ok x) before after request stays = tt
+err_spared (Err x) before after request stays = leads_nowhere before after (λ m n. Spares request m n) (spares_all request) stays
+
+pub begin_spared : {A E : Type 0} (r : Result A E) (before after : Held) (request : Request) (sid : ℕ) → request ≡ requests.Begin sid → OnErr r (Leads before (λ m n. Spares (requests.Begin sid) m n) after) → OnErr r (Leads before (λ m n. Spares request m n) after)
+begin_spared r before after request sid e leads = subst (λ (q : Request). OnErr r (Leads before (λ m n. Spares q m n) after)) (sym e) leads
 
 -- the same for what is answered, if it is
 pub ok_by : {E : Type 0} (r : Result Reply E) (before after : Held) (one other : Reply → Machine → Machine → Type 0) → ((p : Reply) (m n : Machine) → one p m n → other p m n) → IfOk r (λ p. Leads before (one p) after) → IfOk r (λ p. Leads before (other p) after)

@@ -1,5 +1,5 @@
 -- Makers of patterns, of which the first is used.
-use Rattle.std.proofs.Common.{◌≡◌, ◌<◌, refl, arith, List, [], ◌∷◌, length, get_or}
+use Rattle.std.proofs.Common.{◌<◌, arith, List, [], ◌∷◌, length, get_or}
 use Rattle.std.specs.Prelude.{slice_set}
 use Rattle.dg_check.specs.declared.patterns.Refusal.{Refusal}
 use Rattle.dg_check.specs.Patterns.{IsFrontOf}

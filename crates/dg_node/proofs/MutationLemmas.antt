@@ -5,7 +5,6 @@ use Rattle.std.specs.Str.{IsUtf8, IsValidUpTo}
 use Rattle.std.proofs.lemmas.Grind.{common_steps}
 use Rattle.std.proofs.lemmas.Str.{utf8_valid_len-IsUtf8, utf8_valid_len-IsValidUpTo}
 use Rattle.dg_node.proofs.OneAmong.{Around, some_found}
-use Rattle.std.specs.Arc.{arc_value}
 use Rattle.std.specs.Str.Lossy.{utf8_valid_len}
 use Rattle.dg_wire.specs.declared.refusal.Refusal.TheVariants as refusals
 use Rattle.dg_wire.specs.declared.reply.Reply.{Reply}
@@ -13,7 +12,6 @@ use Rattle.dg_wire.specs.declared.reply.Reply.TheVariants as replies
 use Rattle.dg_schema.specs.declared.definition.PredDef.{PredDef}
 use Rattle.dg_graph.specs.declared.change.Triple.{Triple}
 use Rattle.dg_graph.specs.declared.change.Change.{Change}
-use Rattle.dg_graph.specs.Graphs.{after_changes}
 use Rattle.dg_edges.specs.declared.edge.Edge.{Edge}
 use Rattle.dg_edges.specs.declared.fault.EdgeFault.{EdgeFault}
 use Rattle.dg_edges.specs.Resolving.{Resolves, IsAnswer}
@@ -28,12 +26,9 @@ use Rattle.dg_zero.specs.declared.fault.ZeroFault.{ZeroFault}
 use Rattle.dg_zero.specs.declared.fault.ZeroFault.TheVariants as faults
 use Rattle.dg_zero.specs.Legal.{IsLegal}
 use Rattle.dg_zero.specs.States.{Zero, and_then}
-use Rattle.dg_zero.specs.Worlds.{world_at, schema_at, graph_at}
+use Rattle.dg_txn.specs.Own.{graph}
 use Rattle.dg_node.specs.declared.engine.Opened.{Opened}
-use Rattle.dg_node.specs.Graphs.{committed_at}
 use Rattle.dg_node.specs.Graphs as machines
-use Rattle.dg_node.specs.Schemas.{Alter}
-use Rattle.dg_node.specs.Schemas as alters
 use Rattle.dg_node.specs.Machine.{Machine, Session, session_of, with_changes, leased_upto}
 use Rattle.dg_node.specs.Kept.{IsKept}
 use Rattle.dg_node.specs.Mutations.{first_leased, added, added_from, mutated, MutatesBy, MutatesAs, MutatesText, MutatesIn}
@@ -41,8 +36,7 @@ use Rattle.dg_node.specs.NewUids.{uids_text}
 use Rattle.dg_node.specs.State.{session_from, Leads}
 use Rattle.dg_node.proofs.Standing.{StandFor}
 use Rattle.dg_node.proofs.Leading.{from_all}
-use Rattle.dg_node.proofs.SessionLemmas.{open_here, schema_here, leased_kept, leased_stand, looked_kept}
-use Rattle.dg_node.proofs.MachineLemmas.{schemas_are}
+use Rattle.dg_node.proofs.SessionLemmas.{open_here, schema_here, graph_here, leased_kept, leased_stand, looked_kept}
 
 abbrev Pair : Type 0
 Pair = Reply × Machine
@@ -70,15 +64,6 @@ module _ (m : Machine) (s : Session) where
 -- the nodes that the machine leases are those that Zero leases
 pub leased_here : (z : Zero) (os : List Opened) (m : Machine) (edges : List Edge) → StandFor z os m → first_leased m edges ≡ leased z.history (top_uid edges) (length (new_names edges))
 leased_here z os m edges s = ap (λ (uid : ℕ). first_leased (leased_upto m uid) edges) s.uid_is
-
--- ---- what is seen
-
--- the graph that a transaction sees
-pub graph_here : (z : Zero) (os : List Opened) (m : Machine) (o : Opened) → StandFor z os m → machines.graph_at m.alters m.commits o.start o.own ≡ graph_at z.history o.start o.own
-graph_here z os m o s =
-    let schema_is : alters.schema_at m.alters o.start ≡ schema_at z.history o.start = ap (λ (l : List Alter). alters.schema_at l o.start) s.alters_are ∙ schemas_are z.history o.start in
-    let graph_is : committed_at m.alters m.commits o.start ≡ (world_at z.history o.start).graph = s.graphs_are o.start in
-    λ i. after_changes (schema_is i) (graph_is i) o.own
 
 -- ---- by what a text says
 
@@ -133,10 +118,10 @@ module _ (z : Zero) (os : List Opened) (k : IsKept z os) (sid place : ℕ) (a : 
   pub of_session : (P : Session → Type 0) → IsSomeAnd (session_of m sid) P → P (session_from a.it)
   of_session P p = subst (λ (o : Option Session). IsSomeAnd o P) here p
 
-  pub by_checked : (statements : List Statement) (checked : Result (List Edge) EdgeFault) (p : Reply) (n : Machine) → Resolves (arc_value a.it.schema) statements checked → ◌≡◌ {A = Pair} (mutated m (session_from a.it) checked) (p, n) → IsSomeAnd (session_of m sid) (λ s. MutatesBy m s statements p n)
+  pub by_checked : (statements : List Statement) (checked : Result (List Edge) EdgeFault) (p : Reply) (n : Machine) → Resolves a.it.txn.schema statements checked → ◌≡◌ {A = Pair} (mutated m (session_from a.it) checked) (p, n) → IsSomeAnd (session_of m sid) (λ s. MutatesBy m s statements p n)
   by_checked statements checked p n resolves e = at_session (λ s. MutatesBy m s statements p n) (record {
     checked = checked;
-    resolves = subst (λ (ds : List PredDef). Resolves ds statements checked) (sym (schema_here z os k sid place a m stood)) resolves;
+    resolves = subst (λ (ds : List PredDef). Resolves ds statements checked) (sym (schema_here z os a.before a.after a.it k a.whole m stood)) resolves;
     outcome = e;
   })
 
@@ -151,10 +136,10 @@ module _ (z : Zero) (os : List Opened) (k : IsKept z os) (sid place : ℕ) (a : 
         at_session (λ t. ◌≡◌ {A = Pair} (added m t edges) (replies.Refused (refusals.UidsSpent next), m)) (added_spent m (session_from a.it) edges some (leases ∙ none) ∙ (λ i. (replies.Refused (refusals.UidsSpent (there i)), m)))
 
     -- the changes are taken, and then the nodes are leased
-    pub added_here : (first : ℕ) (changes : List Change) (body : List ℕ) (mid n : Machine) → leased z.history top count ≡ Some first → changes ≡ expanded (graph_at z.history a.it.start a.it.own) edges first → body ≡ uids_text first (new_names edges) → mid ≡ with_changes m sid changes → n ≡ leased_upto mid (first + count) → IsSomeAnd (session_of m sid) (λ t. ◌≡◌ {A = Pair} (added m t edges) (replies.Mutate sid body, n))
+    pub added_here : (first : ℕ) (changes : List Change) (body : List ℕ) (mid n : Machine) → leased z.history top count ≡ Some first → changes ≡ expanded (graph a.it.txn) edges first → body ≡ uids_text first (new_names edges) → mid ≡ with_changes m sid changes → n ≡ leased_upto mid (first + count) → IsSomeAnd (session_of m sid) (λ t. ◌≡◌ {A = Pair} (added m t edges) (replies.Mutate sid body, n))
     added_here first changes body mid n e changes_are body_is taken then =
         let text : uids_text first (new_names edges) ≡ body = sym body_is in
-        let all : expanded (machines.graph_at m.alters m.commits a.it.start a.it.own) edges first ≡ changes = ap (λ (g : List Triple). expanded g edges first) (graph_here z os m a.it stood) ∙ sym changes_are in
+        let all : expanded (machines.graph_at m.alters m.commits a.it.txn.start a.it.txn.own) edges first ≡ changes = ap (λ (g : List Triple). expanded g edges first) (graph_here z os a.before a.after a.it k a.whole m stood) ∙ sym changes_are in
         let so_many : length (new_names edges) ≡ count = sym count_is in
         let own : a.it.sid ≡ sid = a.is in
         let last : leased_upto (with_changes m sid changes) (first + count) ≡ n = ap (λ (x : Machine). leased_upto x (first + count)) (sym taken) ∙ sym then in

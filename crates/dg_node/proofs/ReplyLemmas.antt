@@ -68,13 +68,13 @@ module _ (m : Machine) (sid : ℕ) (o : Opened) (opens : session_of m sid ≡ So
   without_changes [] e = refl
   without_changes (change ∷ own) e = absurd (cc)
 
-  pub nothing_committed : o.own ≡ [] → ◌≡◌ {A = Pair} (committed m sid) (replies.Commit sid 0, without_session m sid)
-  nothing_committed none = rw opens (without_changes o.own none ∙ (λ i. (replies.Commit (is i) 0, without_session m (is i))))
+  pub nothing_committed : o.txn.own ≡ [] → ◌≡◌ {A = Pair} (committed m sid) (replies.Commit sid 0, without_session m sid)
+  nothing_committed none = rw opens (without_changes o.txn.own none ∙ (λ i. (replies.Commit (is i) 0, without_session m (is i))))
 
-  unless : o.own ≢ [] → ◌≡◌ {A = Pair} (committed m sid) (committed_unless m (session_from o) (clash_of m (session_from o)))
-  unless some = rw opens (with_changes m (session_from o) o.own some)
+  unless : o.txn.own ≢ [] → ◌≡◌ {A = Pair} (committed m sid) (committed_unless m (session_from o) (clash_of m (session_from o)))
+  unless some = rw opens (with_changes m (session_from o) o.txn.own some)
 
-  pub committed_is : (ts : ℕ) → o.own ≢ [] → clash_of m (session_from o) ≡ None → m.next < 2 ^ 62 → ts ≡ m.next → ◌≡◌ {A = Pair} (committed m sid) (replies.Commit sid ts, without_session (drawn (with_commit m (session_from o)) (m.next + 1)) sid)
+  pub committed_is : (ts : ℕ) → o.txn.own ≢ [] → clash_of m (session_from o) ≡ None → m.next < 2 ^ 62 → ts ≡ m.next → ◌≡◌ {A = Pair} (committed m sid) (replies.Commit sid ts, without_session (drawn (with_commit m (session_from o)) (m.next + 1)) sid)
   committed_is ts some clear lt e =
       unless some ∙ (ap (λ (r : Option Refusal). committed_unless m (session_from o) r) clear
       ∙ (rw (less m.next lt) refl ∙ (λ i. (replies.Commit (is i) (back i), without_session (drawn (with_commit m (session_from o)) (m.next + 1)) (is i)))))
@@ -82,11 +82,11 @@ module _ (m : Machine) (sid : ℕ) (o : Opened) (opens : session_of m sid ≡ So
       back : m.next ≡ ts
       back = sym e
 
-  pub commit_clashes : (refusal : Refusal) → o.own ≢ [] → clash_of m (session_from o) ≡ Some refusal → ◌≡◌ {A = Pair} (committed m sid) (replies.Refused refusal, without_session m sid)
+  pub commit_clashes : (refusal : Refusal) → o.txn.own ≢ [] → clash_of m (session_from o) ≡ Some refusal → ◌≡◌ {A = Pair} (committed m sid) (replies.Refused refusal, without_session m sid)
   commit_clashes refusal some clash =
       unless some ∙ (ap (λ (r : Option Refusal). committed_unless m (session_from o) r) clash ∙ (λ i. (replies.Refused refusal, without_session m (is i))))
 
-  pub commit_spent : (spent : ℕ) → o.own ≢ [] → clash_of m (session_from o) ≡ None → m.next ≡ 2 ^ 62 → spent ≡ m.next → ◌≡◌ {A = Pair} (committed m sid) (replies.Refused (refusals.TimestampsSpent spent), m)
+  pub commit_spent : (spent : ℕ) → o.txn.own ≢ [] → clash_of m (session_from o) ≡ None → m.next ≡ 2 ^ 62 → spent ≡ m.next → ◌≡◌ {A = Pair} (committed m sid) (replies.Refused (refusals.TimestampsSpent spent), m)
   commit_spent spent some clear end e =
       unless some ∙ (ap (λ (r : Option Refusal). committed_unless m (session_from o) r) clear ∙ rw (not_less m.next end, e) refl)
 

@@ -13,10 +13,10 @@ use Rattle.dg_node.specs.declared.engine.Opened.{Opened}
 
 -- the offer has the start and the changes of an open transaction, is made of them, and is sound
 pub record IsOfferOf (history : List Entry) (o : Opened) (offer : Offer) : Type 0 where
-  pub start_is : offer.start ≡ o.start
-  pub changes_are : offer.changes ≡ o.own
-  pub made_of : IsMadeOf (schema_at history o.start) (graph_at history o.start []) offer.changes offer.keys offer.parts
-  pub sound : IsSound (schema_at history o.start) (graph_at history o.start []) offer.preds offer.keys offer.parts
+  pub start_is : offer.start ≡ o.txn.start
+  pub changes_are : offer.changes ≡ o.txn.own
+  pub made_of : IsMadeOf (schema_at history o.txn.start) (graph_at history o.txn.start []) offer.changes offer.keys offer.parts
+  pub sound : IsSound (schema_at history o.txn.start) (graph_at history o.txn.start []) offer.preds offer.keys offer.parts
 
 -- the text of the key that a verdict names, and none where it names none
 abbrev pub clash_text : List ConflictKey → Verdict → List ℕ

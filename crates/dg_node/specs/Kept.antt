@@ -1,7 +1,6 @@
 -- What the engine keeps of itself: Zero's history is legal, and the open sessions are its active starts.
 use Rattle.std.specs.Prelude.{◌≡◌, ◌≢◌, ◌<◌, ℕ, List, [], ◌∷◌, map}
 use Rattle.std.specs.List.{AllByRecursion}
-use Rattle.std.specs.Arc.{arc_value}
 use Rattle.dg_zero.specs.declared.entry.Entry.{Entry}
 use Rattle.dg_zero.specs.declared.tablets.Phase.TheVariants.{Idle}
 use Rattle.dg_zero.specs.declared.tablets.Place.{Place}
@@ -9,7 +8,7 @@ use Rattle.dg_zero.specs.Counters.{Started, next, active}
 use Rattle.dg_zero.specs.Legal.{IsLegal}
 use Rattle.dg_zero.specs.Places.{tablets}
 use Rattle.dg_zero.specs.States.{Zero}
-use Rattle.dg_zero.specs.Worlds.{schema}
+use Rattle.dg_zero.specs.Worlds.{schema, graph_at}
 use Rattle.dg_edges.specs.Deltas.{AreFitting, IsPlain}
 use Rattle.dg_node.specs.declared.engine.Opened.{Opened}
 
@@ -20,19 +19,20 @@ pub record Held : Type 0 where
 
 -- an open transaction's start, begun by author 0
 abbrev pub started : Opened → Started
-started o = record { start = o.start; author = 0 }
+started o = record { start = o.txn.start; author = 0 }
 
 -- no two have the same number
 abbrev pub AreApart : {X : Type 0} → (X → ℕ) → List X → Type 0
 AreApart f [] = Unit {0}
 AreApart f (x ∷ xs) = AllByRecursion (λ y. f y ≢ f x) xs × AreApart f xs
 
--- an open transaction's start was drawn, it has the present schema, and its changes fit it
+-- an open transaction's start was drawn, it has the present schema and the graph at its start, and its changes fit the schema
 pub record IsOpened (history : List Entry) (o : Opened) : Type 0 where
-  pub drawn : o.start < next history
-  pub schema_is : arc_value o.schema ≡ schema history
-  pub fitting : AreFitting (schema history) o.own
-  pub author : o.slip ≡ 0
+  pub drawn : o.txn.start < next history
+  pub schema_is : o.txn.schema ≡ schema history
+  pub base_is : o.txn.base ≡ graph_at history o.txn.start []
+  pub fitting : AreFitting (schema history) o.txn.own
+  pub author : o.txn.author ≡ 0
 
 -- nothing is moved, no predicate has an index, a reverse or a count, and the open transactions are the active ones
 pub record IsKept (zero : Zero) (opened : List Opened) : Type 0 where

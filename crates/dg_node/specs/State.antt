@@ -19,7 +19,7 @@ use Rattle.dg_node.specs.Steps.{TakesMemory}
 
 -- an open transaction, as the machine has it
 abbrev pub session_from : Opened → Session
-session_from o = record { sid = o.sid; start = o.start; own = o.own }
+session_from o = record { sid = o.sid; start = o.txn.start; own = o.txn.own }
 
 -- the alter that an event is
 abbrev pub alter_of : Event → List Alter

@@ -1,23 +1,25 @@
 // What `alter` does.
-ghost use Rattle.std.specs.Prelude.{◌≡◌, ◌==◌, not, IfOk};
+ghost use Rattle.std.specs.Prelude.{◌≡◌, ◌==◌, ◌<◌, not, IfOk};
 ghost use Rattle.std.specs.List.{list_any};
 ghost use Rattle.dg_zero.specs.Legal.{kind_rank};
-ghost use Rattle.dg_zero.specs.Worlds.{schema, world};
 ghost use Rattle.dg_node.specs.Alters.{has_directive, is_other_kind, has_data, first_with_data};
 
 use crate::engine::Engine;
 use crate::step::unbuilt;
+use dg_graph::Snapshot;
 use dg_schema::{PredDef, Schema, SchemaFault, read_schema};
-use dg_values::{Kind, List, Mem, OutOfMemory, Str};
+use dg_txn::Present;
+use dg_values::{Kind, Mem, OutOfMemory, Steps, Str};
 use dg_wire::{Refusal, Reply};
-use dg_zero::{Slip, ZeroFault, ZeroState};
+use dg_zero::{Slip, ZeroFault};
 use std::alloc::Global;
+use std::marker::Brand;
 use std::str;
+use std::sync::ledger::{Blank, Ledger};
 
 impl Engine {
     ghost use Rattle.std.specs.Prelude.{◌≡◌, ◌≤◌, [], None, false, IfOk, OnErr, length};
     ghost use Rattle.std.specs.List.{list_any};
-    ghost use Rattle.dg_schema.specs.Definitions.{AreDistinct};
     ghost use Rattle.dg_schema.specs.Whole as language;
     ghost use Rattle.dg_zero.specs.Counters.{active};
     ghost use Rattle.dg_zero.specs.Worlds.{world};
@@ -64,10 +66,11 @@ impl Engine {
         if has_directives(newer.definitions()) {
             return Ok(unbuilt());
         }
-        if let Some(start) = self.zero.first_active() {
+        if let Some(start) = self.cluster.zero().first_active() {
             return Ok(Reply::Refused(Refusal::Pending { start }));
         }
-        if let Some(pred) = first_with_data(alloc, &self.zero, newer.definitions())? {
+        let present = self.cluster.present(alloc)?;
+        if let Some(pred) = first_with_data(alloc, &present, newer.definitions())? {
             return Ok(Reply::Refused(Refusal::HasData { pred }));
         }
         self.declare(alloc, newer)
@@ -76,7 +79,6 @@ impl Engine {
     // Draws two timestamps, and adds or replaces the definitions from the second on. No transaction is active and no tablet
     // is held, so nothing else refuses it than spent timestamps and want of memory.
     fn declare(&mut self, alloc: Global, newer: &Schema) -> Mem<Reply>
-        requires distinct { AreDistinct newer.now }
         requires plain { list_any has_directive newer.now ≡ false }
         requires idle { active self.old.zero.history ≡ [] }
         requires free { first_with_data (worlds.schema self.old.zero.history) (world self.old.zero.history).graph newer.now ≡ None }
@@ -84,7 +86,7 @@ impl Engine {
         ensures err { OnErr result (Stays self.old self.new) }
     {
         let slip = Slip::new(alloc, 0)?;
-        match self.zero.alter(slip, newer, List::new(alloc)) {
+        match self.cluster.alter(alloc, slip, newer) {
             Ok((start, commit)) => Ok(Reply::Alter { start, commit }),
             Err(ZeroFault::TimestampsSpent { next }) => {
                 Ok(Reply::Refused(Refusal::TimestampsSpent { next }))
@@ -136,22 +138,43 @@ fn is_other_kind(definition: &PredDef, older: &PredDef) -> bool
 }
 
 // Whether the predicate has a triple, and would change its kind, or whether it is a list.
-fn has_data(alloc: Global, zero: &ZeroState, definition: &PredDef) -> Mem<bool>
-    ensures { IfOk result (λ has. has ≡ has_data (schema zero.now.history) (world zero.now.history).graph definition.now) }
+fn has_data<L: Ledger>(
+    alloc: Global,
+    present: &Present,
+    definition: &PredDef,
+    reads: &mut Steps<L>,
+) -> Mem<bool>
+    ensures { IfOk result (λ has. has ≡ has_data present.now.schema present.now.graph definition.now) }
 {
     let name = definition.name.as_str();
-    match zero.schema().lookup(name) {
-        Some(older) if is_other_kind(definition, older) => zero.has_triple(alloc, name),
+    match present.schema().lookup(name) {
+        Some(older) if is_other_kind(definition, older) => present.has_triple(alloc, name, reads),
         _ => Ok(false),
     }
 }
 
 // The first such predicate, in the order of the definitions.
-fn first_with_data(alloc: Global, zero: &ZeroState, definitions: &[PredDef]) -> Mem<Option<Str>>
-    ensures { IfOk result (λ found. found ≡ first_with_data (schema zero.now.history) (world zero.now.history).graph definitions.now) }
+fn first_with_data(alloc: Global, present: &Present, definitions: &[PredDef]) -> Mem<Option<Str>>
+    ensures { IfOk result (λ found. found ≡ first_with_data present.now.schema present.now.graph definitions.now) }
 {
+    first_in::<Brand>(alloc, present, definitions, Blank::new(1))
+}
+
+// The same, on a ledger of its own for the lists that are read.
+fn first_in<L: Ledger>(
+    alloc: Global,
+    present: &Present,
+    definitions: &[PredDef],
+    blank: Blank,
+) -> Mem<Option<Str>>
+    requires name { blank.name ≡ L.name }
+    requires parts { blank.parts ≡ L.parts }
+    requires some { 0 < blank.parts }
+    ensures { IfOk result (λ found. found ≡ first_with_data present.now.schema present.now.graph definitions.now) }
+{
+    let mut reads = Steps::<L>::new(blank);
     for definition in definitions {
-        if has_data(alloc, zero, definition)? {
+        if has_data(alloc, present, definition, &mut reads)? {
             return Ok(Some(definition.name.copy(alloc)?));
         }
     }

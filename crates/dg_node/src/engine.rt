@@ -1,29 +1,24 @@
-// The engine: Zero's state, and the open transactions.
+// The engine: Zero's state with its groups, and the open transactions.
 ghost use Rattle.std.specs.Prelude.{◌≡◌};
 
-use dg_graph::Change;
-use dg_schema::Schema;
-use dg_values::{List, Mem, OutOfMemory};
+use crate::owned::Owned;
+use dg_txn::Txn;
+use dg_values::{Mem, OutOfMemory};
 use dg_wire::{Refusal, Reply};
-use dg_zero::{Slip, ZeroState};
 use std::alloc::Global;
 use std::marker::Model;
-use std::sync::Arc;
 
-/// An open transaction: its session, its start, the schema there, its own changes in order, and room for its end.
+/// An open transaction, and its session.
 #[derive(Drop)]
 pub struct Opened {
     pub sid: u32,
-    pub start: u64,
-    pub schema: Arc<Schema>,
-    pub own: List<Change>,
-    pub slip: Slip,
+    pub txn: Txn,
 }
 
 /// The engine. Contracts see Zero's state and the open transactions, in the order in which they began.
 #[derive(Drop)]
 pub struct Engine {
-    pub(crate) zero: ZeroState,
+    pub(crate) cluster: Owned,
     pub(crate) sessions: Vec<Opened>,
 }
 
@@ -32,9 +27,9 @@ impl Model for Engine {
 
     ghost Value = { Held };
 
-    ghost view = { λ e. record { zero = e.zero; opened = e.sessions.items } };
+    ghost view = { λ e. record { zero = e.cluster; opened = e.sessions.items } };
 
-    ghost invariant = { λ e. IsKept e.zero e.sessions.items };
+    ghost invariant = { λ e. IsKept e.cluster e.sessions.items };
 }
 
 impl Engine {
@@ -60,7 +55,7 @@ impl Engine {
         ensures { IfOk result (λ engine. StandsFor engine (empty_from groups next)) }
     {
         Ok(Engine {
-            zero: ZeroState::starting_at(alloc, groups, next)?,
+            cluster: Owned::starting_at(alloc, groups, next)?,
             sessions: Vec::new(alloc),
         })
     }
@@ -79,8 +74,8 @@ impl Engine {
         ensures { (sid : ℕ) → position (λ o. o.sid == sid) self.old.opened ≡ Some place → Leads self.old (λ m n. n ≡ without_session m sid) self.new }
     {
         let opened = self.sessions.remove(place);
-        let Opened { start, slip, .. } = opened;
-        let _ = self.zero.end(slip, start);
+        let (start, end) = opened.txn.close();
+        let _ = self.cluster.end(end, start);
     }
 }
 

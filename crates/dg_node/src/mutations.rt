@@ -1,29 +1,25 @@
 // What `mutate` does.
-ghost use Rattle.std.specs.Prelude.{◌≡◌, ◌≢◌, ◌+◌, ◌<◌, ◌^◌, ◌++◌, [], true, length, IfOk, OnOk, OnErr};
+ghost use Rattle.std.specs.Prelude.{◌≡◌, ◌+◌, ◌<◌, ◌^◌, length, IfOk};
 ghost use Rattle.dg_edges.specs.Expanding.{new_names, expanded};
-ghost use Rattle.dg_zero.specs.Counters.{active, is_active_of};
-ghost use Rattle.dg_zero.specs.Legal.{IsLegal};
-ghost use Rattle.dg_zero.specs.Worlds.{graph_at};
-ghost use Rattle.dg_node.specs.Kept.{IsOpened};
+ghost use Rattle.dg_txn.specs.Own.{graph};
 
-use crate::engine::{Engine, Opened, no_session};
+use crate::engine::{Engine, no_session};
 use crate::new_uids::uids_text;
-use crate::view::view_of;
 use dg_edges::{EdgeFault, Resolved, expand, resolve};
-use dg_graph::Change;
+use dg_graph::{Change, Snapshot};
 use dg_nquad::{Mutation, NquadFault, read_mutation};
-use dg_values::{List, Mem, OutOfMemory, Steps};
+use dg_txn::Txn;
+use dg_values::{Mem, OutOfMemory, Steps};
 use dg_wire::{Refusal, Reply};
-use dg_zero::{Slip, ZeroState};
+use dg_zero::Slip;
 use std::alloc::Global;
 use std::marker::Brand;
+use std::str;
 use std::sync::ledger::{Blank, Ledger};
-use std::{mem, str};
 
 impl Engine {
     ghost use Rattle.std.specs.Prelude.{◌≡◌, ◌==◌, ◌<◌, ◌+◌, ◌≤◌, ℕ, Some, IfOk, IfSome, IsSomeAnd, OnOk, OnErr, length, position, slice_get};
     ghost use Rattle.std.specs.List.{AllByRecursion};
-    ghost use Rattle.std.specs.Arc.{arc_value};
     ghost use Rattle.dg_edges.specs.Deltas.{AreFitting};
     ghost use Rattle.dg_edges.specs.Resolving.{IsResolved};
     ghost use Rattle.dg_nquad.specs.Plain.{HasNoVariable};
@@ -78,7 +74,7 @@ impl Engine {
         ensures ok { IfOk result (λ reply. Leads self.old (λ m n. IsSomeAnd (session_of m sid) (λ session. MutatesBy m session mutation.statements reply n)) self.new) }
         ensures err { OnErr result (Stays self.old self.new) }
     {
-        match resolve(alloc, &self.sessions[place].schema, mutation) {
+        match resolve(alloc, self.sessions[place].txn.schema(), mutation) {
             Ok(resolved) => self.add(alloc, sid, place, &resolved),
             Err(EdgeFault::NoPredicate { pred }) => {
                 Ok(Reply::Refused(Refusal::NoPredicate { pred }))
@@ -98,7 +94,7 @@ impl Engine {
     fn add(&mut self, alloc: Global, sid: u32, place: usize, resolved: &Resolved) -> Mem<Reply>
         requires at { position (λ o. o.sid == sid) self.old.opened ≡ Some place }
         requires within { place < length self.old.opened }
-        requires resolved { IfSome (slice_get self.old.opened place) (λ o. IsResolved (arc_value o.schema) resolved.now) }
+        requires resolved { IfSome (slice_get self.old.opened place) (λ o. IsResolved o.txn.schema resolved.now) }
         ensures ok { IfOk result (λ reply. Leads self.old (λ m n. IsSomeAnd (session_of m sid) (λ session. added m session resolved.now ≡ (reply, n))) self.new) }
         ensures err { OnErr result (Stays self.old self.new) }
     {
@@ -109,12 +105,13 @@ impl Engine {
         }
         let top = resolved.top_uid();
         let count = names.len() as u64;
-        let Some(first) = self.zero.leasable(top, count) else {
+        let zero = self.cluster.zero();
+        let Some(first) = zero.leasable(top, count) else {
             return Ok(Reply::Refused(Refusal::UidsSpent {
-                next: self.zero.next_uid(),
+                next: zero.next_uid(),
             }));
         };
-        let changes = changes_of(alloc, &self.zero, &self.sessions[place], resolved, first)?;
+        let changes = changes_of(alloc, &self.sessions[place].txn, resolved, first)?;
         let body = uids_text(alloc, names, first)?;
         let slip = Slip::new(alloc, 0)?;
         self.take(alloc, sid, place, changes)?;
@@ -126,12 +123,12 @@ impl Engine {
     fn take(&mut self, alloc: Global, sid: u32, place: usize, changes: Vec<Change>) -> Mem<()>
         requires at { position (λ o. o.sid == sid) self.old.opened ≡ Some place }
         requires within { place < length self.old.opened }
-        requires fitting { IfSome (slice_get self.old.opened place) (λ o. AreFitting (arc_value o.schema) changes.items) }
+        requires fitting { IfSome (slice_get self.old.opened place) (λ o. AreFitting o.txn.schema changes.items) }
         ensures ok { OnOk result (Leads self.old (λ m n. n ≡ with_changes m sid changes.items) self.new) }
         ensures zero { OnOk result (self.new.zero ≡ self.old.zero) }
         ensures err { OnErr result (Stays self.old self.new) }
     {
-        append(alloc, &mut self.sessions[place].own, changes)
+        self.sessions[place].txn.add(alloc, changes)
     }
 
     // Leases nodes, of which so many are left. It takes no memory.
@@ -139,32 +136,22 @@ impl Engine {
         requires author { slip ≡ 0 }
         ensures { (first : ℕ) → leased self.old.zero.history top count ≡ Some first → Leads self.old (λ m n. n ≡ leased_upto m (first + count)) self.new }
     {
-        let _ = self.zero.lease(slip, top, count);
+        let _ = self.cluster.lease(slip, top, count);
     }
 }
 
 // The changes that checked statements stand for in the graph that a transaction sees.
-fn changes_of(
-    alloc: Global,
-    zero: &ZeroState,
-    opened: &Opened,
-    resolved: &Resolved,
-    first: u64,
-) -> Mem<Vec<Change>>
+fn changes_of(alloc: Global, txn: &Txn, resolved: &Resolved, first: u64) -> Mem<Vec<Change>>
     requires room { first + length (new_names resolved.now) < 2 ^ 64 }
-    requires legal { IsLegal zero.now.groups zero.now.history }
-    requires opened { IsOpened zero.now.history opened.now }
-    requires active { is_active_of (active zero.now.history) opened.now.start 0 ≡ true }
-    ensures { IfOk result (λ changes. changes.items ≡ expanded (graph_at zero.now.history opened.now.start opened.now.own) resolved.now first) }
+    ensures { IfOk result (λ changes. changes.items ≡ expanded (graph txn.now) resolved.now first) }
 {
-    expand_in::<Brand>(alloc, zero, opened, resolved, first, Blank::new(1))
+    expand_in::<Brand>(alloc, txn, resolved, first, Blank::new(1))
 }
 
 // The same, on a ledger of its own for the lists that are read.
 fn expand_in<L: Ledger>(
     alloc: Global,
-    zero: &ZeroState,
-    opened: &Opened,
+    txn: &Txn,
     resolved: &Resolved,
     first: u64,
     blank: Blank,
@@ -173,22 +160,7 @@ fn expand_in<L: Ledger>(
     requires parts { blank.parts ≡ L.parts }
     requires some { 0 < blank.parts }
     requires room { first + length (new_names resolved.now) < 2 ^ 64 }
-    requires legal { IsLegal zero.now.groups zero.now.history }
-    requires opened { IsOpened zero.now.history opened.now }
-    requires active { is_active_of (active zero.now.history) opened.now.start 0 ≡ true }
-    ensures { IfOk result (λ changes. changes.items ≡ expanded (graph_at zero.now.history opened.now.start opened.now.own) resolved.now first) }
+    ensures { IfOk result (λ changes. changes.items ≡ expanded (graph txn.now) resolved.now first) }
 {
-    let view = view_of(alloc, zero, opened)?;
-    expand(alloc, &view, resolved, first, &mut Steps::<L>::new(blank))
-}
-
-// Adds changes at the end. They are moved. After an error the list is as before.
-fn append(alloc: Global, own: &mut List<Change>, mut changes: Vec<Change>) -> Mem<()>
-    ensures ok { OnOk result (own.new ≡ own.old ++ changes.items) }
-    ensures err { OnErr result (own.new ≡ own.old) }
-{
-    let mut all = mem::replace(own, List::new(alloc)).into_vec();
-    let done = all.append(&mut changes);
-    *own = List::from_vec(all);
-    Ok(done?)
+    expand(alloc, txn, resolved, first, &mut Steps::<L>::new(blank))
 }

@@ -8,7 +8,7 @@ ghost use Rattle.dg_values.specs.Ascending.{Ascends};
 ghost use Rattle.dg_delta.specs.Ops.{op_cmp};
 ghost use Rattle.dg_keys.specs.Keys.{key_cmp, part_cmp};
 ghost use Rattle.dg_list.specs.Lists.{newest_ts, reading, with_base};
-ghost use Rattle.dg_pages.specs.Entries.{with_entry, entry_from, entry_above, change_of};
+ghost use Rattle.dg_pages.specs.Entries.{IsMap, with_entry, entry_from, entry_above, change_of};
 ghost use Rattle.dg_store.specs.Stores.{list_under, list_at, held_parts, with_part, after_parts, bases_of, after_bases};
 
 use crate::parts::{is_among, layer_of};
@@ -66,14 +66,16 @@ impl Store {
 
     /// The least key at or above this one, with its list. None exactly where there is none. It takes no memory.
     pub fn scan(&self, from: &Key) -> Option<(&Arc<Key>, &Arc<PList>)>
-        ensures { option_map (λ p. (arc_value p.0.now, arc_value p.1.now)) result ≡ entry_from key_cmp from.now self.now }
+        ensures next { option_map (λ p. (arc_value p.0.now, arc_value p.1.now)) result ≡ entry_from key_cmp from.now self.now }
+        ensures ascend { IsMap key_cmp self.now }
     {
         self.lists.next_from(from)
     }
 
     /// The least key above this one, with its list. None exactly where there is none. It takes no memory.
     pub fn scan_above(&self, after: &Key) -> Option<(&Arc<Key>, &Arc<PList>)>
-        ensures { option_map (λ p. (arc_value p.0.now, arc_value p.1.now)) result ≡ entry_above key_cmp after.now self.now }
+        ensures next { option_map (λ p. (arc_value p.0.now, arc_value p.1.now)) result ≡ entry_above key_cmp after.now self.now }
+        ensures ascend { IsMap key_cmp self.now }
     {
         self.lists.next_above(after)
     }

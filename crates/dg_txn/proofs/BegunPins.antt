@@ -1,4 +1,4 @@
--- The pins of groups that are up to date hold the graph at a start that is drawn then.
+-- The pins of groups that are up to date hold the present graph, which is that at a start that is drawn then.
 use Rattle.std.proofs.Common.{◌≡◌, ◌<◌, ◌≤◌, ◌+◌, ◌∙◌, sym, ap, subst, arith, refl, ℕ, zero, suc, List, [], ◌∷◌, ◌++◌, Bool, true, false, cond, map, fold}
 use Rattle.std.specs.Prelude.{◌||◌, ◌&&◌, ◌==◌, if◌then◌else◌, nat_le, nat_lt, Option, Some, None, find, option_map, IsSomeAnd}
 use Rattle.std.specs.List.{AllByRecursion, list_any}
@@ -24,7 +24,7 @@ use Rattle.dg_zero.specs.declared.entry.Event.{Event}
 use Rattle.dg_zero.specs.declared.entry.Event.TheVariants.{Alter, MoveStart, MoveCopied, MoveHold, Flip, MoveOff, Rolled, Line}
 use Rattle.dg_zero.specs.declared.tablets.Phase.TheVariants.{Started, Copied, Held}
 use Rattle.dg_zero.specs.declared.tablets.Place.{Place}
-use Rattle.dg_zero.specs.Counters.{next}
+use Rattle.dg_zero.specs.Counters.{next, last}
 use Rattle.dg_zero.specs.Worlds.{World, world, world_at, schema, schema_at, graph_at}
 use Rattle.dg_zero.specs.Places.{Copy, Places, places, places_after, tablets, copies, copy_at, is_place_of, on_place, in_phase, at_rest, fresh, fresh_place, fewest, groups, owned}
 use Rattle.dg_zero.specs.Records.{record_of, records, next_record}
@@ -43,7 +43,7 @@ use Rattle.dg_group.specs.Stands.{CopyStands, IsInStep, Standing, is_brought, ha
 use Rattle.dg_group.proofs.Between.{found_at, found_is}
 use Rattle.dg_group.proofs.Entries.{legal_last, all_joined, any_joined, or_true, last_drawn, entries_keep_in_step, all_applied_is_readable}
 use Rattle.dg_txn.specs.Pins.{pin_of, pinned_copy, IsCopyOf, ArePinsOf}
-use Rattle.dg_txn.specs.Laws.{AreCurrent, BegunPinsHold}
+use Rattle.dg_txn.specs.Laws.{AreCurrent, BegunPinsHold, PresentPinsHold}
 
 -- ---- tablets are at groups from 1 to n
 
@@ -260,15 +260,91 @@ numbered (g ∷ gs) number e k = by (g.number == number) e k (λ e k. numbered g
     by true e k rest = cc
     by false e k rest = rest e k
 
+-- ---- pins of groups that are up to date
+
+-- the group's copies are merged, and its records applied, up to a timestamp at most
+record IsLow (at : ℕ) (g : Group) : Type 0 where
+  marks : AllByRecursion (λ (c : held.Copied). c.mark ≤ at) g.copies
+  last : g.last ≤ at
+
+module _ (n : ℕ) (h : List Entry) (at : ℕ) (gs : List Group) (le : 1 ≤ n) (l : IsLegal n h) (drawn : at < next h) (present : world_at h at ≡ world h) (low : AllByRecursion (IsLow at) gs) (a : AreCurrent n h gs) where
+  abbrev graph : List Triple
+  graph = graph_at h at []
+
+  listed_same : (key : Key) → listing (schema_at h at) graph key ≡ listing (schema h) graph key
+  listed_same key = λ i. listing (present i).schema graph key
+
+  abbrev IsPinned : Tablet → Type 0
+  IsPinned t = IsSomeAnd (pinned_copy gs t) (IsCopyOf at (schema h) graph t.pred)
+
+  stands_at : (c : Option held.Copied) (d : Option Copy) → IsSomeAnd d (λ c. c.until ≡ None) → option_map standing_of c ≡ option_map standing_in d → IsSomeAnd c (λ copy. copy.until ≡ None)
+  stands_at None None s e = absurd (s)
+  stands_at None (Some d) s e = absurd (cc)
+  stands_at (Some c) None s e = absurd (s)
+  stands_at (Some c) (Some d) s e = let same : standing_of c ≡ standing_in d = cc in ap (λ (s : Standing). s.until) same ∙ s
+
+  of_copy : (pin : Group) (pred : List ℕ) (c : Option held.Copied) → copy_of pin.copies pred ≡ c → IsInStep pin h → IsLow at pin → next_record h pin.last ≡ None → IsSomeAnd c (λ copy. copy.until ≡ None) → IsSomeAnd c (IsCopyOf at (schema h) graph pred)
+  of_copy pin pred None q step below none s = absurd (s)
+  of_copy pin pred (Some copy) q step below none s =
+      let stands = found_at (CopyStands h pin.last) (is_copy_of pred) pin.copies copy q step.stands.each in
+      let mark : copy.mark ≤ at = found_at (λ (c : held.Copied). c.mark ≤ at) (is_copy_of pred) pin.copies copy q below.marks in
+      let named : copy.pred ≡ pred = same_text-equal copy.pred pred (found_is (is_copy_of pred) pin.copies copy q) in
+      let readable = all_applied_is_readable n h pin copy at l none s mark drawn below.last in
+      record {
+        pred_is = named;
+        bases = all_with (λ e. IsLaid copy.mark pin.last e.1) (λ e. e.1.base_ts ≤ at) copy.store (λ e i. omega (arith, i.base, mark)) stands.kept.laid;
+        lists = λ key own. stands.listed at readable key (ap (same_text (pred_of key)) named ∙ own) ∙ listed_same key;
+      }
+
+  pinned : (t : Place) → IsHoused n t → HasCopy (copies h) t.pred t.group → list_any (is_place_of t.pred) (tablets h) ≡ true → IsPinned (tablet_of t)
+  pinned t house owns there = by (pin_of gs t.group) refl
+    where
+      numbers : list_any (λ k. k == t.group) (map (λ (g : Group). g.number) gs) ≡ true
+      numbers = ap (list_any (λ k. k == t.group)) a.numbers ∙ number_in n t.group house.at
+
+      brought : (last : ℕ) → next_record h last ≡ None → is_brought h last t.pred ≡ true
+      brought last none = all_brought last t.pred (records h) none (were_brought n h l t.pred there)
+
+      by : (o : Option Group) → pin_of gs t.group ≡ o → IsSomeAnd (option_and_then (λ (pin : Group). copy_of pin.copies t.pred) o) (IsCopyOf at (schema h) graph t.pred)
+      by None q = absurd (numbered gs t.group numbers q)
+      by (Some pin) q =
+          let same : pin.number ≡ t.group = number_is pin (found_is (λ (g : Group). g.number == t.group) gs pin q) in
+          let step : IsInStep pin h = found_at (λ (g : Group). IsInStep g h) (λ (g : Group). g.number == t.group) gs pin q a.in_step in
+          let below : IsLow at pin = found_at (IsLow at) (λ (g : Group). g.number == t.group) gs pin q low in
+          let none : next_record h pin.last ≡ None = found_at (λ (g : Group). next_record h g.last ≡ None) (λ (g : Group). g.number == t.group) gs pin q a.applied in
+          let at_group : option_map standing_of (copy_of pin.copies t.pred) ≡ option_map standing_in (copy_at (copies h) t.pred t.group) =
+          step.stands.copies_are t.pred ∙ (λ i. if brought pin.last none i then option_map standing_in (copy_at (copies h) t.pred (same i)) else None) in
+          of_copy pin t.pred (copy_of pin.copies t.pred) refl step below none (stands_at (copy_of pin.copies t.pred) (copy_at (copies h) t.pred t.group) owns at_group)
+        where
+          number_is : (pin : Group) → (pin.number == t.group) ≡ true → pin.number ≡ t.group
+          number_is pin e = grind (arith, common_steps)
+
+  pins_hold : ArePinsOf at (schema h) (owners h) gs graph
+  pins_hold = record {
+    lawful = subst (λ (w : World). IsLawful w.schema graph) present (graphs_are_lawful n h at l);
+    named = λ pred. any_owner (λ t. same_text t.pred pred) (map tablet_of (tablets h)) ∙ (any_of_tablets pred (tablets h) ∙ (tablets_are_declared n h l).named pred);
+    held = all_owners IsPinned (tablets h)
+        (all_with (λ t. IsHoused n t × (HasCopy (copies h) t.pred t.group × (list_any (is_place_of t.pred) (tablets h) ≡ true))) (λ t. IsPinned (tablet_of t)) (tablets h) (λ t f. pinned t f.0 f.1.0 f.1.1)
+        (all_three (IsHoused n) (λ t. HasCopy (copies h) t.pred t.group) (λ t. list_any (is_place_of t.pred) (tablets h) ≡ true) (tablets h) (are_housed n h le l) (owners_have_copies n h l) (each_there (tablets h))));
+  }
+
+-- a group that is in step is merged and has applied records below the next timestamp
+low_at : (n : ℕ) (h : List Entry) (at : ℕ) (g : Group) → IsLegal n h → next h ≤ at + 1 → IsInStep g h → IsLow at g
+low_at n h at g l top step = record {
+  marks = all_with (λ (c : held.Copied). c.mark < next h) (λ (c : held.Copied). c.mark ≤ at) g.copies (λ c m. omega (arith, m, top)) step.drawn;
+  last = let applied : g.last < next h = last_drawn n h g.last l step.stands.applied in omega (arith, applied, top);
+}
+
+-- at present
+pub present_pins_hold : PresentPinsHold
+present_pins_hold n h gs le l a =
+    pins_hold n h (last h) gs le l (omega arith) (present_is_last n h (last h) l (omega arith))
+    (all_with (λ g. IsInStep g h) (IsLow (last h)) gs (λ g step. low_at n h (last h) g l (omega arith) step) a.in_step) a
+
+-- at a start that is drawn then
 module _ (n : ℕ) (h : List Entry) (author : ℕ) (gs : List Group) (le : 1 ≤ n) (l : IsLegal n (h ++ begin_of author (next h) ∷ [])) (a : AreCurrent n h gs) where
   abbrev begun : List Entry
   begun = h ++ begin_of author (next h) ∷ []
-
-  abbrev start : ℕ
-  start = next h
-
-  abbrev graph : List Triple
-  graph = graph_at h start []
 
   before : IsLegal n h
   before = (legal_last n [] h (begin_of author (next h)) l).0
@@ -282,74 +358,30 @@ module _ (n : ℕ) (h : List Entry) (author : ℕ) (gs : List Group) (le : 1 ≤
   next_more : next begun ≡ next h + 1
   next_more = next_push h (begin_of author (next h))
 
-  world_same : world_at begun start ≡ world_at h start
-  world_same =
-      present_is_last n begun start l (omega (arith, next_more))
-      ∙ (world_push h (begin_of author (next h)) ∙ sym (present_is_last n h start before (omega arith)))
+  present_now : world_at begun (next h) ≡ world begun
+  present_now = present_is_last n begun (next h) l (omega (arith, next_more))
 
-  present : world_at h start ≡ world h
-  present = present_is_last n h start before (omega arith)
+  world_same : world begun ≡ world h
+  world_same = world_push h (begin_of author (next h))
 
-  listed_same : (key : Key) → listing (schema_at begun start) (graph_at begun start []) key ≡ listing (schema h) graph key
-  listed_same key =
-      (λ i. listing (world_same i).schema (after_changes (world_same i).schema (world_same i).graph []) key)
-      ∙ (λ i. listing (present i).schema (after_changes (world_at h start).schema (world_at h start).graph []) key)
+  graph_same : graph_at begun (next h) [] ≡ graph_at h (next h) []
+  graph_same =
+      let same : world_at begun (next h) ≡ world_at h (next h) = present_now ∙ (world_same ∙ sym (present_is_last n h (next h) before (omega arith))) in
+      λ i. after_changes (same i).schema (same i).graph []
 
-  abbrev IsPinned : Tablet → Type 0
-  IsPinned t = IsSomeAnd (pinned_copy gs t) (IsCopyOf start (schema h) graph t.pred)
-
-  stands_at : (c : Option held.Copied) (d : Option Copy) → IsSomeAnd d (λ c. c.until ≡ None) → option_map standing_of c ≡ option_map standing_in d → IsSomeAnd c (λ copy. copy.until ≡ None)
-  stands_at None None s e = absurd (s)
-  stands_at None (Some d) s e = absurd (cc)
-  stands_at (Some c) None s e = absurd (s)
-  stands_at (Some c) (Some d) s e = let same : standing_of c ≡ standing_in d = cc in ap (λ (s : Standing). s.until) same ∙ s
-
-  of_copy : (pin : Group) (pred : List ℕ) (c : Option held.Copied) → copy_of pin.copies pred ≡ c → IsInStep pin h → IsInStep pin begun → next_record begun pin.last ≡ None → IsSomeAnd c (λ copy. copy.until ≡ None) → IsSomeAnd c (IsCopyOf start (schema h) graph pred)
-  of_copy pin pred None q old new none s = absurd (s)
-  of_copy pin pred (Some copy) q old new none s =
-      let stands = found_at (CopyStands begun pin.last) (is_copy_of pred) pin.copies copy q new.stands.each in
-      let low : copy.mark < next h = found_at (λ (c : held.Copied). c.mark < next h) (is_copy_of pred) pin.copies copy q old.drawn in
-      let named : copy.pred ≡ pred = same_text-equal copy.pred pred (found_is (is_copy_of pred) pin.copies copy q) in
-      let applied : pin.last < next h = last_drawn n h pin.last before old.stands.applied in
-      let readable = all_applied_is_readable n begun pin copy start l none s (omega (arith, low)) (omega (arith, next_more)) (omega (arith, applied)) in
-      record {
-        pred_is = named;
-        bases = all_with (λ e. IsLaid copy.mark pin.last e.1) (λ e. e.1.base_ts ≤ start) copy.store (λ e i. omega (arith, i.base, low)) stands.kept.laid;
-        lists = λ key own. stands.listed start readable key (ap (same_text (pred_of key)) named ∙ own) ∙ listed_same key;
-      }
-
-  pinned : (t : Place) → IsHoused n t → HasCopy (copies h) t.pred t.group → list_any (is_place_of t.pred) (tablets h) ≡ true → IsPinned (tablet_of t)
-  pinned t house owns there = by (pin_of gs t.group) refl
-    where
-      numbers : list_any (λ k. k == t.group) (map (λ (g : Group). g.number) gs) ≡ true
-      numbers = ap (list_any (λ k. k == t.group)) a.numbers ∙ number_in n t.group house.at
-
-      brought : (last : ℕ) → next_record begun last ≡ None → is_brought begun last t.pred ≡ true
-      brought last none = all_brought last t.pred (records begun) none (ap (list_any (λ (r : Record). has_tablet t.pred r.fresh)) records_same ∙ were_brought n h before t.pred there)
-
-      by : (o : Option Group) → pin_of gs t.group ≡ o → IsSomeAnd (option_and_then (λ (pin : Group). copy_of pin.copies t.pred) o) (IsCopyOf start (schema h) graph t.pred)
-      by None q = absurd (numbered gs t.group numbers q)
-      by (Some pin) q =
-          let same : pin.number ≡ t.group = number_is pin (found_is (λ (g : Group). g.number == t.group) gs pin q) in
-          let old : IsInStep pin h = found_at (λ (g : Group). IsInStep g h) (λ (g : Group). g.number == t.group) gs pin q a.in_step in
-          let applied : next_record h pin.last ≡ None = found_at (λ (g : Group). next_record h g.last ≡ None) (λ (g : Group). g.number == t.group) gs pin q a.applied in
-          let none : next_record begun pin.last ≡ None = ap (find (λ (r : Record). nat_lt pin.last r.ts)) records_same ∙ applied in
-          let new : IsInStep pin begun = entries_keep_in_step n h (begin_of author (next h)) pin l (ap (λ (s : Places). s.copies) places_same) old in
-          let at_group : option_map standing_of (copy_of pin.copies t.pred) ≡ option_map standing_in (copy_at (copies h) t.pred t.group) =
-          new.stands.copies_are t.pred ∙ (λ i. if brought pin.last none i then option_map standing_in (copy_at (places_same i).copies t.pred (same i)) else None) in
-          of_copy pin t.pred (copy_of pin.copies t.pred) refl old new none (stands_at (copy_of pin.copies t.pred) (copy_at (copies h) t.pred t.group) owns at_group)
-        where
-          number_is : (pin : Group) → (pin.number == t.group) ≡ true → pin.number ≡ t.group
-          number_is pin e = grind (arith, common_steps)
-
-  pins_hold : ArePinsOf start (schema h) (owners h) gs graph
-  pins_hold = record {
-    lawful = subst (λ (w : World). IsLawful w.schema graph) present (graphs_are_lawful n h start before);
-    named = λ pred. any_owner (λ t. same_text t.pred pred) (map tablet_of (tablets h)) ∙ (any_of_tablets pred (tablets h) ∙ (tablets_are_declared n h before).named pred);
-    held = all_owners IsPinned (tablets h)
-        (all_with (λ t. IsHoused n t × (HasCopy (copies h) t.pred t.group × (list_any (is_place_of t.pred) (tablets h) ≡ true))) (λ t. IsPinned (tablet_of t)) (tablets h) (λ t f. pinned t f.0 f.1.0 f.1.1)
-        (all_three (IsHoused n) (λ t. HasCopy (copies h) t.pred t.group) (λ t. list_any (is_place_of t.pred) (tablets h) ≡ true) (tablets h) (are_housed n h le before) (owners_have_copies n h before) (each_there (tablets h))));
+  current : AreCurrent n begun gs
+  current = record {
+    numbers = a.numbers;
+    in_step = all_with (λ g. IsInStep g h) (λ g. IsInStep g begun) gs (λ g step. entries_keep_in_step n h (begin_of author (next h)) g l (ap (λ (s : Places). s.copies) places_same) step) a.in_step;
+    applied = all_with (λ (g : Group). next_record h g.last ≡ None) (λ (g : Group). next_record begun g.last ≡ None) gs (λ g none. ap (find (λ (r : Record). nat_lt g.last r.ts)) records_same ∙ none) a.applied;
   }
 
+  begun_hold : ArePinsOf (next h) (schema h) (owners h) gs (graph_at h (next h) [])
+  begun_hold =
+      let there = pins_hold n begun (next h) gs le l (omega (arith, next_more)) present_now (all_with (λ g. IsInStep g h) (IsLow (next h)) gs (λ g step. low_at n h (next h) g before (omega arith) step) a.in_step) current in
+      subst (λ (w : World). ArePinsOf (next h) w.schema (owners h) gs (graph_at h (next h) [])) world_same
+      (subst (λ (s : Places). ArePinsOf (next h) (schema begun) (ascending tablet_cmp (map tablet_of s.tablets)) gs (graph_at h (next h) [])) places_same
+      (subst (ArePinsOf (next h) (schema begun) (owners begun) gs) graph_same there))
+
 pub begun_pins_hold : BegunPinsHold
-begun_pins_hold n h author gs le l a = pins_hold n h author gs le l a
+begun_pins_hold n h author gs le l a = begun_hold n h author gs le l a

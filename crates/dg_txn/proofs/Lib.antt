@@ -1,5 +1,8 @@
 -- Pins and own changes.
 pub mod PinLaws
 pub mod OneOffer
+pub mod ComposedOps
 pub mod OwnSteps
 pub mod BegunPins
+pub mod SomeListed
+pub mod Scanning

@@ -30,12 +30,12 @@ use Rattle.dg_graph.specs.Changes as changes
 use Rattle.dg_graph.proofs.GraphLaws.{changes_ascend}
 use Rattle.dg_zero.specs.Listings.{listing, AreGainsAndLosses}
 use Rattle.dg_edges.specs.Deltas.{AreFitting}
-use Rattle.dg_edges.proofs.OpLaws.{between_ascends}
 use Rattle.dg_edges.proofs.PartLaws.{all_joined}
 use Rattle.dg_group.proofs.Leads.{between_leads, listing_ascends}
 use Rattle.dg_group.proofs.Lists.{none_at, first_at}
-use Rattle.dg_txn.specs.Gains.{parts_from, entries_from, renewed, some_ops, change_by, parts_after}
+use Rattle.dg_txn.specs.Gains.{parts_from, entries_from, composed, some_ops, change_by, parts_after}
 use Rattle.dg_txn.specs.Own.{AreOwn}
+use Rattle.dg_txn.proofs.ComposedOps.{composed_ascends, composed_leads}
 
 abbrev Entries : Type 0
 Entries = List (Key × List Op)
@@ -152,45 +152,53 @@ ops_ascend (p ∷ ps) key a = by (is_eq (key_cmp p.key key)) refl (ops_ascend ps
 
 -- ---- what the changes of a step say
 
-module _ (start : Key → List Posting) (own : List Part) where
+module _ (own : List Part) where
   -- the operations at a key where a step has these, and it had those
   abbrev answer : Key → List Op → List Op → List Op
   answer key [] was = was
-  answer key (op ∷ ops) was = renewed (start key) (ops_at own key) (op ∷ ops)
+  answer key (op ∷ ops) was = composed (ops_at own key) (op ∷ ops)
 
   ops_made : (key : Key) (ops : List Op) → ops_of (made key_cmp (key, some_ops ops)) ≡ ops
   ops_made key [] = refl
   ops_made key (op ∷ ops) = refl
 
-  some_answer : (key : Key) (ops was : List Op) → AreOps ops → renewed (start key) (ops_at own key) ops ≡ answer key ops was
+  some_answer : (key : Key) (ops was : List Op) → AreOps ops → composed (ops_at own key) ops ≡ answer key ops was
   some_answer key [] was a = absurd (a.some refl)
   some_answer key (op ∷ ops) was a = refl
 
-  said : (step : List Part) (key : Key) (was : Option (Key × List Op)) → Ascends part_cmp step → AllByRecursion (λ (p : Part). AreOps p.ops) step → ops_of (last_said key_cmp key (map (change_by start own) step) was) ≡ answer key (ops_at step key) (ops_of was)
+  said : (step : List Part) (key : Key) (was : Option (Key × List Op)) → Ascends part_cmp step → AllByRecursion (λ (p : Part). AreOps p.ops) step → ops_of (last_said key_cmp key (map (change_by own) step) was) ≡ answer key (ops_at step key) (ops_of was)
   said [] key was a each = refl
   said (p ∷ step) key was a each = by (is_eq (key_cmp key p.key)) refl (λ w. said step key w a.1 each.1)
     where
       by : (v : Bool) → is_eq (key_cmp key p.key) ≡ v
-          → ((w : Option (Key × List Op)) → ops_of (last_said key_cmp key (map (change_by start own) step) w) ≡ answer key (ops_at step key) (ops_of w))
-          → ops_of (last_said key_cmp key (map (change_by start own) step) (cond v (made key_cmp (change_by start own p)) was)) ≡ answer key (ops_at (p ∷ step) key) (ops_of was)
+          → ((w : Option (Key × List Op)) → ops_of (last_said key_cmp key (map (change_by own) step) w) ≡ answer key (ops_at step key) (ops_of w))
+          → ops_of (last_said key_cmp key (map (change_by own) step) (cond v (made key_cmp (change_by own p)) was)) ≡ answer key (ops_at (p ∷ step) key) (ops_of was)
       by true q rest =
           let same : key ≡ p.key = is_one key_cmp key_order key p.key q in
           let none : ops_at step key ≡ [] = ap (ops_at step) same ∙ none_at p.key step a.0 in
           let whole : ops_at (p ∷ step) key ≡ p.ops = ap (ops_at (p ∷ step)) same ∙ first_at p step a.0 in
-          rest (made key_cmp (change_by start own p))
-          ∙ (ap (λ (ops : List Op). answer key ops (ops_of (made key_cmp (change_by start own p)))) none
-          ∙ (ops_made p.key (renewed (start p.key) (ops_at own p.key) p.ops)
-          ∙ (ap (λ (k : Key). renewed (start k) (ops_at own k) p.ops) (sym same)
+          rest (made key_cmp (change_by own p))
+          ∙ (ap (λ (ops : List Op). answer key ops (ops_of (made key_cmp (change_by own p)))) none
+          ∙ (ops_made p.key (composed (ops_at own p.key) p.ops)
+          ∙ (ap (λ (k : Key). composed (ops_at own k) p.ops) (sym same)
           ∙ (some_answer key p.ops (ops_of was) each.0 ∙ ap (λ (ops : List Op). answer key ops (ops_of was)) (sym whole)))))
       by false q rest = rest was ∙ ap (λ (ops : List Op). answer key ops (ops_of was)) (sym (other_at p step key (turned_apart key p.key q)))
 
-  said_of_all : (step : List Part) (key : Key) → AreParts own → AreParts step → ops_at (parts_after start own step) key ≡ answer key (ops_at step key) (ops_at own key)
+  said_of_all : (step : List Part) (key : Key) → AreParts own → AreParts step → ops_at (parts_after own step) key ≡ answer key (ops_at step key) (ops_at own key)
   said_of_all step key o s =
       let map_is : IsMap key_cmp (entries_from own) = entries_ascend own o.ascend in
-      ops_in (changed_all key_cmp (entries_from own) (map (change_by start own) step)) key (map_changes key_cmp (total_from key_cmp key_order) (map (change_by start own) step) (entries_from own) map_is)
-      ∙ (ap ops_of (at_changes (total_from key_cmp key_order) key (map (change_by start own) step) (entries_from own) map_is)
+      ops_in (changed_all key_cmp (entries_from own) (map (change_by own) step)) key (map_changes key_cmp (total_from key_cmp key_order) (map (change_by own) step) (entries_from own) map_is)
+      ∙ (ap ops_of (at_changes (total_from key_cmp key_order) key (map (change_by own) step) (entries_from own) map_is)
       ∙ (said step key (entry_at key_cmp key (entries_from own)) s.ascend s.each
       ∙ ap (answer key (ops_at step key)) (sym (ops_in (entries_from own) key map_is) ∙ ap (λ (ps : List Part). ops_at ps key) (parts_back own))))
+
+-- one more part, and what it makes
+pub change_more : {C : Type 0} (seen : C → Key × Option (List Op)) (own step : List Part) (cs : List C) (c : C) (k : ℕ) (part : Part) → k < length step → part ≡ get_or step k part → map seen cs ≡ map (change_by own) (take k step) → seen c ≡ change_by own part → map seen (cs ++ c ∷ []) ≡ map (change_by own) (take (k + 1) step)
+change_more seen own step cs c k part lt is so_far one =
+    map-append seen cs (c ∷ [])
+    ∙ ((λ i. so_far i ++ one i ∷ [])
+    ∙ (sym (map-append (change_by own) (take k step) (part ∷ []))
+    ∙ ap (map (change_by own)) (ap (λ (p : Part). take k step ++ p ∷ []) is ∙ sym (take_more step k part lt))))
 
 -- ---- they are parts
 
@@ -215,31 +223,18 @@ some_are : (ops : List Op) → Ascends op_cmp ops → IfSome (some_ops ops) AreO
 some_are [] a = tt
 some_are (op ∷ ops) a = record { some = λ e. cc; ascend = a }
 
-pub parts_again : (start : Key → List Posting) (own step : List Part) → ((key : Key) → Ascends posting_cmp (start key)) → AreParts own → AreParts step → AreParts (parts_after start own step)
-parts_again start own step st o s =
+pub parts_again : (own step : List Part) → AreParts own → AreParts step → AreParts (parts_after own step)
+parts_again own step o s =
     record {
-      ascend = parts_ascend (changed_all key_cmp (entries_from own) (map (change_by start own) step)) (map_changes key_cmp (total_from key_cmp key_order) (map (change_by start own) step) (entries_from own) (entries_ascend own o.ascend));
-      each = each_part AreOps (changed_all key_cmp (entries_from own) (map (change_by start own) step)) (all_after AreOps (map (change_by start own) step) (entries_from own) (each_change step s.each) (each_entry AreOps own o.each));
+      ascend = parts_ascend (changed_all key_cmp (entries_from own) (map (change_by own) step)) (map_changes key_cmp (total_from key_cmp key_order) (map (change_by own) step) (entries_from own) (entries_ascend own o.ascend));
+      each = each_part AreOps (changed_all key_cmp (entries_from own) (map (change_by own) step)) (all_after AreOps (map (change_by own) step) (entries_from own) (each_change step s.each) (each_entry AreOps own o.each));
     }
   where
-    renewed_ascends : (key : Key) (own ops : List Op) → Ascends op_cmp ops → Ascends op_cmp (renewed (start key) own ops)
-    renewed_ascends key [] ops a = a
-    renewed_ascends key (op ∷ own) ops a = between_ascends (start key) (after_ops (after_ops (start key) (op ∷ own)) ops) (st key)
-
-    each_change : (ps : List Part) → AllByRecursion (λ (p : Part). AreOps p.ops) ps → AllByRecursion (λ c. IfSome c.1 AreOps) (map (change_by start own) ps)
+    each_change : (ps : List Part) → AllByRecursion (λ (p : Part). AreOps p.ops) ps → AllByRecursion (λ c. IfSome c.1 AreOps) (map (change_by own) ps)
     each_change [] a = tt
-    each_change (p ∷ ps) a = (some_are (renewed (start p.key) (ops_at own p.key) p.ops) (renewed_ascends p.key (ops_at own p.key) p.ops a.0.ascend), each_change ps a.1)
+    each_change (p ∷ ps) a = (some_are (composed (ops_at own p.key) p.ops) (composed_ascends (ops_at own p.key) p.ops (ops_ascend own p.key o)), each_change ps a.1)
 
 -- ---- they lead from the start to where the step leads
-
-led_on : (s m a : List Posting) (own step : List Op) → Ascends posting_cmp s → Ascends posting_cmp m → Ascends posting_cmp a → own ≡ changes_between s m → step ≡ changes_between m a → renewed s own step ≡ changes_between s a
-led_on s m a [] step sa ma aa o t =
-    let same : s ≡ m = ap (after_ops s) o ∙ between_leads s m sa ma in
-    t ∙ ap (λ (l : List Posting). changes_between l a) (sym same)
-led_on s m a (op ∷ own) step sa ma aa o t =
-    let mid : after_ops s (op ∷ own) ≡ m = ap (after_ops s) o ∙ between_leads s m sa ma in
-    let end : after_ops (after_ops s (op ∷ own)) step ≡ a = (λ i. after_ops (mid i) (t i)) ∙ between_leads m a ma aa in
-    ap (changes_between s) end
 
 stayed : (s m a : List Posting) (own : List Op) → Ascends posting_cmp m → Ascends posting_cmp a → own ≡ changes_between s m → [] ≡ changes_between m a → own ≡ changes_between s a
 stayed s m a own ma aa o t =
@@ -250,14 +245,14 @@ after_both : (schema : List PredDef) (graph : List Triple) (cs ds : List Change)
 after_both schema graph [] ds = refl
 after_both schema graph (c ∷ cs) ds = after_both schema (after_changes schema graph (c ∷ [])) cs ds
 
-pub own_after : (schema : List PredDef) (base : List Triple) (own more : List Change) (parts step : List Part) → AreOwn schema base own parts → AreFitting schema more → AreGainsAndLosses schema (after_changes schema base own) schema (after_changes schema (after_changes schema base own) more) step → AreOwn schema base (own ++ more) (parts_after (listing schema base) parts step)
+pub own_after : (schema : List PredDef) (base : List Triple) (own more : List Change) (parts step : List Part) → AreOwn schema base own parts → AreFitting schema more → AreGainsAndLosses schema (after_changes schema base own) schema (after_changes schema (after_changes schema base own) more) step → AreOwn schema base (own ++ more) (parts_after parts step)
 own_after schema base own more parts step a fit g =
     record {
       lawful = a.lawful;
       fitting = all_joined (λ c. fits schema (changes.changed c) ≡ true) own more a.fitting fit;
       exact = record {
-        parts_are = parts_again (listing schema base) parts step (λ key. listing_ascends schema base key a.lawful.ascend) a.exact.parts_are g.parts_are;
-        exact = λ key. said_of_all (listing schema base) parts step key a.exact.parts_are g.parts_are ∙ leads key;
+        parts_are = parts_again parts step a.exact.parts_are g.parts_are;
+        exact = λ key. said_of_all parts step key a.exact.parts_are g.parts_are ∙ leads key;
       };
     }
   where
@@ -273,7 +268,7 @@ own_after schema base own more parts step a fit g =
     mid_ascends : Ascends triple_cmp mid
     mid_ascends = changes_ascend schema base own a.lawful.ascend
 
-    leads : (key : Key) → answer (listing schema base) parts key (ops_at step key) (ops_at parts key) ≡ changes_between (listing schema base key) (listing schema (after_changes schema base (own ++ more)) key)
+    leads : (key : Key) → answer parts key (ops_at step key) (ops_at parts key) ≡ changes_between (listing schema base key) (listing schema (after_changes schema base (own ++ more)) key)
     leads key =
         by (ops_at step key) (g.exact key)
         ∙ ap (λ (t : List Triple). changes_between (listing schema base key) (listing schema t key)) whole
@@ -287,6 +282,6 @@ own_after schema base own more parts step a fit g =
         e : Ascends posting_cmp (listing schema end key)
         e = listing_ascends schema end key (changes_ascend schema mid more mid_ascends)
 
-        by : (ops : List Op) → ops ≡ changes_between (listing schema mid key) (listing schema end key) → answer (listing schema base) parts key ops (ops_at parts key) ≡ changes_between (listing schema base key) (listing schema end key)
+        by : (ops : List Op) → ops ≡ changes_between (listing schema mid key) (listing schema end key) → answer parts key ops (ops_at parts key) ≡ changes_between (listing schema base key) (listing schema end key)
         by [] t = stayed (listing schema base key) (listing schema mid key) (listing schema end key) (ops_at parts key) m e (a.exact.exact key) t
-        by (op ∷ ops) t = led_on (listing schema base key) (listing schema mid key) (listing schema end key) (ops_at parts key) (op ∷ ops) s m e (a.exact.exact key) t
+        by (op ∷ ops) t = composed_leads (listing schema base key) (listing schema mid key) (listing schema end key) (ops_at parts key) (op ∷ ops) s (a.exact.exact key) t

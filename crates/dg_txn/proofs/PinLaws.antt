@@ -2,7 +2,7 @@
 use Rattle.std.proofs.Common.{◌≡◌, ◌≤◌, ◌∙◌, sym, ap, refl, ℕ, List, [], ◌∷◌, Bool, true, false, cond, map, flat_map}
 use Rattle.std.specs.Prelude.{◌||◌, Option, Some, None, find, is_some, unwrap_or, IsSomeAnd, filter}
 use Rattle.std.specs.List.{AllByRecursion, list_any}
-use Rattle.std.specs.Option.{option_and_then}
+use Rattle.std.specs.Option.{option_and_then, option_map}
 use Rattle.std.specs.Ordering.{is_eq}
 use Rattle.dg_values.specs.Order.{posting_cmp, same_text}
 use Rattle.dg_values.specs.Ascending.{Ascends, has}
@@ -11,7 +11,7 @@ use Rattle.dg_values.proofs.OrderLaws.{posting_order}
 use Rattle.dg_sets.proofs.Sets.{is_one, one_list, has_more, ascends_more, has_joined}
 use Rattle.dg_schema.specs.declared.definition.PredDef.{PredDef}
 use Rattle.dg_schema.specs.Definitions.{definition_of}
-use Rattle.dg_schema.proofs.Names.{same_text-turned}
+use Rattle.dg_schema.proofs.Names.{same_text-equal, same_text-turned}
 use Rattle.dg_delta.specs.Ops.{AreOps, op_cmp, after_ops}
 use Rattle.dg_graph.specs.declared.change.Change.{Change}
 use Rattle.dg_graph.specs.declared.change.Triple.{Triple}
@@ -29,12 +29,12 @@ use Rattle.dg_store.specs.Stores.{Lists, list_under, list_at, no_list}
 use Rattle.dg_zero.specs.Listings.{listing, listing_by}
 use Rattle.dg_edges.proofs.EdgeLaws.{listed_by}
 use Rattle.dg_group.specs.declared.copied.Copied.{Copied}
-use Rattle.dg_group.specs.Groups.{Group}
+use Rattle.dg_group.specs.Groups.{Group, copy_of}
 use Rattle.dg_group.proofs.Between.{found_at, found_is, found_any}
 use Rattle.dg_group.proofs.Leads.{between_leads, none_between, listing_ascends}
 use Rattle.dg_group.proofs.Lists.{own_ops}
 use Rattle.dg_edges.proofs.OfferLaws.{lawful_goal}
-use Rattle.dg_txn.specs.Pins.{pinned_copy, tablet_of, copy_for, read_in, read_from, list_for, triples_at, triples_of, graph_of, IsCopyOf, ArePinsOf}
+use Rattle.dg_txn.specs.Pins.{pin_of, pinned_copy, tablet_of, copy_for, read_in, read_from, list_for, triples_at, triples_of, graph_of, IsCopyOf, ArePinsOf}
 use Rattle.dg_txn.specs.Own.{AreOwn}
 use Rattle.dg_txn.specs.Laws.{PinsRead, PinsHaveOne, OwnRead}
 
@@ -65,6 +65,18 @@ pins_read at schema owners pins graph key a = by (tablet_of owners (pred_of key)
     by (Some t) e =
         of_copy at schema graph key t.pred (pinned_copy pins t) (same_text-turned (pred_of key) t.pred ∙ found_is (λ t. same_text t.pred (pred_of key)) owners t e)
         (found_at (λ t. IsSomeAnd (pinned_copy pins t) (IsCopyOf at schema graph t.pred)) (λ t. same_text t.pred (pred_of key)) owners t e a.held)
+
+-- the copy of a predicate at the group of this number
+abbrev pub copy_at : List Group → List ℕ → ℕ → Option Copied
+copy_at pins pred number = option_and_then (λ (pin : Group). copy_of pin.copies pred) (pin_of pins number)
+
+-- the copy that is asked for a predicate is that at the group that owns it
+pub copy_by_group : (owners : List Tablet) (pins : List Group) (pred : List ℕ) → copy_for owners pins pred ≡ option_and_then (copy_at pins pred) (option_map (λ (t : Tablet). t.group) (find (λ t. same_text t.pred pred) owners))
+copy_by_group owners pins pred = by (tablet_of owners pred) refl
+  where
+    by : (o : Option Tablet) → tablet_of owners pred ≡ o → option_and_then (pinned_copy pins) o ≡ option_and_then (copy_at pins pred) (option_map (λ (t : Tablet). t.group) o)
+    by None e = refl
+    by (Some t) e = ap (λ (p : List ℕ). copy_at pins p t.group) (same_text-equal t.pred pred (found_is (λ t. same_text t.pred pred) owners t e))
 
 -- the list that is found, and what it is at a timestamp
 abbrev pub read_of : ℕ → Option Layered → List Posting

@@ -11,7 +11,7 @@ use Rattle.dg_keys.specs.declared.record.Part.{Part}
 use Rattle.dg_keys.specs.declared.record.Tablet.{Tablet}
 use Rattle.dg_keys.specs.Keys.{ops_at}
 use Rattle.dg_zero.specs.declared.entry.Entry.{Entry}
-use Rattle.dg_zero.specs.Counters.{next}
+use Rattle.dg_zero.specs.Counters.{next, last}
 use Rattle.dg_zero.specs.Legal.{IsLegal}
 use Rattle.dg_zero.specs.Listings.{listing}
 use Rattle.dg_zero.specs.Places.{groups}
@@ -45,3 +45,7 @@ pub record AreCurrent (n : ℕ) (history : List Entry) (gs : List Group) : Type 
 -- they hold the graph at a start that is drawn then
 abbrev pub BegunPinsHold : Type 0
 BegunPinsHold = (n : ℕ) (history : List Entry) (author : ℕ) (gs : List Group) → 1 ≤ n → IsLegal n (history ++ begin_of author (next history) ∷ []) → AreCurrent n history gs → ArePinsOf (next history) (schema history) (owners history) gs (graph_at history (next history) [])
+
+-- and the present graph
+abbrev pub PresentPinsHold : Type 0
+PresentPinsHold = (n : ℕ) (history : List Entry) (gs : List Group) → 1 ≤ n → IsLegal n history → AreCurrent n history gs → ArePinsOf (last history) (schema history) (owners history) gs (graph_at history (last history) [])

@@ -2,4 +2,5 @@
 pub mod Pins
 pub mod Own
 pub mod Gains
+pub mod Existing
 pub mod Laws

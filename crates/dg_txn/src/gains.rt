@@ -3,23 +3,19 @@ ghost use Rattle.std.specs.Prelude.{[], ◌≡◌, ◌+◌, ◌<◌, ◌++◌, I
 ghost use Rattle.std.specs.Arc.{arc_value};
 ghost use Rattle.dg_values.specs.Ascending.{Ascends};
 ghost use Rattle.dg_delta.specs.Ops.{op_cmp};
-ghost use Rattle.dg_graph.specs.Graphs.{IsLawful};
 ghost use Rattle.dg_keys.specs.Keys.{ops_at, AreParts};
 ghost use Rattle.dg_pages.specs.Entries.{change_of, changes_of, entries_of};
-ghost use Rattle.dg_zero.specs.Listings.{listing};
-ghost use Rattle.dg_txn.specs.Gains.{parts_from, renewed, change_by, parts_after};
+ghost use Rattle.dg_txn.specs.Gains.{parts_from, change_by, parts_after};
 ghost use Rattle.dg_pages.specs.Paged.{joined};
 
-use crate::Present;
-use dg_delta::{Op, apply};
-use dg_edges::between;
+use crate::composing::{composed, push_copies};
+use dg_delta::Op;
 use dg_keys::{Key, Part};
 use dg_pages::Pages;
-use dg_values::{List, Mem, OutOfMemory, Steps};
+use dg_values::{List, Mem, OutOfMemory};
 use std::alloc::Global;
 use std::marker::Model;
 use std::sync::Arc;
-use std::sync::ledger::Ledger;
 
 // The operations on each list that changes change. Contracts see them as parts.
 #[derive(Drop)]
@@ -75,40 +71,14 @@ impl Gains {
         Ok(parts)
     }
 
-    // The operations on the list of a part's key, after a step that is the part.
-    fn renewed<L: Ledger>(
-        &self,
-        alloc: Global,
-        base: &Present,
-        part: &Part,
-        reads: &mut Steps<L>,
-    ) -> Mem<Vec<Op>>
-        requires ascend { Ascends op_cmp part.now.ops }
-        ensures { IfOk result (λ v. v.items ≡ renewed (listing base.now.schema base.now.graph part.now.key) (ops_at self.now part.now.key) part.now.ops) }
-    {
-        let own = self.ops_at(&part.key);
-        if own.is_empty() {
-            return op_copies(alloc, part.ops.as_slice());
-        }
-        let start = base.read(alloc, &part.key, reads)?;
-        let before = apply(alloc, start.as_slice(), own)?;
-        let after = apply(alloc, before.as_slice(), part.ops.as_slice())?;
-        between(alloc, start.as_slice(), after.as_slice())
-    }
-
     // The change of the operations by a step that is the part. A list that is as at the start has none.
-    fn change<L: Ledger>(
-        &self,
-        alloc: Global,
-        base: &Present,
-        part: &Part,
-        reads: &mut Steps<L>,
-    ) -> Mem<(Arc<Key>, Option<Arc<List<Op>>>)>
+    fn change(&self, alloc: Global, part: &Part) -> Mem<(Arc<Key>, Option<Arc<List<Op>>>)>
         requires ascend { Ascends op_cmp part.now.ops }
-        ensures { IfOk result (λ c. change_of c ≡ change_by (listing base.now.schema base.now.graph) self.now part.now) }
+        ensures { IfOk result (λ c. change_of c ≡ change_by self.now part.now) }
     {
         let key = Arc::new(alloc, part.key.copy(alloc)?)?;
-        let ops = self.renewed(alloc, base, part, reads)?;
+        let own = self.ops_at(&part.key);
+        let ops = composed(alloc, own, part.ops.as_slice())?;
         if ops.is_empty() {
             return Ok((key, None));
         }
@@ -116,37 +86,24 @@ impl Gains {
     }
 
     // The changes by each part.
-    fn changes<L: Ledger>(
-        &self,
-        alloc: Global,
-        base: &Present,
-        step: &[Part],
-        reads: &mut Steps<L>,
-    ) -> Mem<Vec<(Arc<Key>, Option<Arc<List<Op>>>)>>
+    fn changes(&self, alloc: Global, step: &[Part]) -> Mem<Vec<(Arc<Key>, Option<Arc<List<Op>>>)>>
         requires step { AreParts step.now }
-        ensures { IfOk result (λ v. changes_of v.items ≡ map (change_by (listing base.now.schema base.now.graph) self.now) step.now) }
+        ensures { IfOk result (λ v. changes_of v.items ≡ map (change_by self.now) step.now) }
     {
         let mut changes = Vec::with_capacity(alloc, step.len())?;
         for part in step {
-            changes.push(self.change(alloc, base, part, reads)?)?;
+            changes.push(self.change(alloc, part)?)?;
         }
         Ok(changes)
     }
 
-    // What lists gain and lose from the start by these and by a further step. A list that has operations already is read at
-    // the start once more. These stay as they are.
-    pub fn after<L: Ledger>(
-        &self,
-        alloc: Global,
-        base: &Present,
-        step: &[Part],
-        reads: &mut Steps<L>,
-    ) -> Mem<Gains>
-        requires lawful { IsLawful base.now.schema base.now.graph }
+    // What lists gain and lose from the start by these and by a further step, which goes on from where these lead. No list is
+    // read. These stay as they are.
+    pub fn after(&self, alloc: Global, step: &[Part]) -> Mem<Gains>
         requires step { AreParts step.now }
-        ensures { IfOk result (λ g. g ≡ parts_after (listing base.now.schema base.now.graph) self.now step.now) }
+        ensures { IfOk result (λ g. g ≡ parts_after self.now step.now) }
     {
-        let changes = self.changes(alloc, base, step, reads)?;
+        let changes = self.changes(alloc, step)?;
         Ok(Gains {
             lists: self.lists.with_changes(alloc, changes)?,
         })
@@ -196,8 +153,6 @@ fn op_copies(alloc: Global, ops: &[Op]) -> Mem<Vec<Op>>
     ensures { IfOk result (λ v. v.items ≡ ops.now) }
 {
     let mut copies = Vec::with_capacity(alloc, ops.len())?;
-    for op in ops {
-        copies.push(op.copy(alloc)?)?;
-    }
+    push_copies(alloc, &mut copies, ops)?;
     Ok(copies)
 }

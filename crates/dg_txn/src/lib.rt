@@ -5,6 +5,8 @@
 //! and loses by them, so a read costs by the operations on its own list.
 #![tactic(auto)]
 
+mod composing;
+mod existing;
 mod gains;
 mod laws;
 mod offer;
@@ -12,6 +14,6 @@ mod present;
 mod reads;
 mod txn;
 
-pub use laws::{begun_pins, pinned_graphs};
+pub use laws::{current_pins, pinned_graphs};
 pub use present::Present;
 pub use txn::Txn;

@@ -23,11 +23,10 @@ pub fn stepped<L: Ledger>(alloc: Global, txn: &Txn, changes: &[Change], blank: B
     requires fitting { AreFitting txn.now.schema changes.now }
     ensures { IfOk result (AreOwn txn.now.schema txn.now.base (txn.now.own ++ changes.now)) }
 {
-    let base = &txn.base;
     let gains = &txn.gains;
     let mut reads = Steps::<L>::new(blank);
     let step = deltas_of(alloc, txn, changes, &mut reads)?;
-    gains.after(alloc, base, step.as_slice(), &mut reads)
+    gains.after(alloc, step.as_slice())
 }
 
 // The keys by which changes conflict.
@@ -40,8 +39,6 @@ pub fn keys_of<L: Ledger>(
     requires name { blank.name ≡ L.name }
     requires parts { blank.parts ≡ L.parts }
     requires room { 0 < blank.parts }
-    requires plain { IsPlain base.now.schema }
-    requires fitting { AreFitting base.now.schema own.now }
     ensures { IfOk result (λ v. v.items ≡ listed.conflict_keys base.now.schema base.now.graph own.now) }
 {
     let mut reads = Steps::<L>::new(blank);

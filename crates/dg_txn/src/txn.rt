@@ -71,8 +71,8 @@ impl Txn {
         })
     }
 
-    /// Adds changes behind its own. It costs by these changes and by the lists of their subjects, each of which is read once,
-    /// and once more where the transaction changed it before. After an error nothing has changed.
+    /// Adds changes behind its own. It costs by these changes and by the lists of their subjects, each of which is read once.
+    /// After an error nothing has changed.
     pub fn add(&mut self, alloc: Global, mut changes: Vec<Change>) -> Mem<()>
         requires plain { IsPlain self.old.schema }
         requires fitting { AreFitting self.old.schema changes.items }

@@ -24,7 +24,7 @@ use Rattle.dg_tokens.specs.Orders.{index_token_cmp}
 use Rattle.dg_tokens.proofs.TokenOrder.{tokenizer_order}
 use Rattle.dg_graph.specs.declared.change.Triple.{Triple}
 use Rattle.dg_graph.specs.Graphs.{is_of, is_of_subject, objects}
-use Rattle.dg_graph.specs.Lookups.{tokens_of_object, has_token, has_tokenizer, with_objects, with_subjects, subjects_where, subjects_of, all_objects}
+use Rattle.dg_graph.specs.Lookups.{tokens_of_object, has_token, has_tokenizer, with_objects, with_subjects, subjects_where, subjects_of, all_objects, is_node}
 use Rattle.dg_graph.proofs.GraphLaws.{same_subject}
 use Rattle.dg_keys.specs.declared.key.Key.{Key}
 use Rattle.dg_keys.specs.declared.key.Key.TheVariants.{Data, Index, Reverse, Count, RCount}
@@ -82,6 +82,10 @@ and_first false b e = absurd (true≢false (sym e))
 and_second : (a b : Bool) → (a && b) ≡ true → b ≡ true
 and_second true b e = e
 and_second false b e = absurd (true≢false (sym e))
+
+not_second : (a b : Bool) → b ≡ false → (a && b) ≡ false
+not_second true b e = e
+not_second false b e = refl
 
 if_so : (a b : Bool) → (a ≡ true → b ≡ true → true ≡ false) → (a && b) ≡ false
 if_so true true f = f refl refl
@@ -262,7 +266,7 @@ none_pointed def graph n h = by def.reverse def.count (nat_le 1 n) refl refl
     by true true false e f = refl
     by true true true e f =
         let most : length graph < n = rcount_above def.name (length graph) n (numbered def graph (RCount def.name n) e h) f in
-        none_pass (λ o. length (subjects_of graph def.name o) == n) (all_objects graph def.name) (each (all_objects graph def.name) (λ o. other_number (length (subjects_of graph def.name o)) n (let few = few_subjects graph def.name o in omega arith)))
+        none_pass (λ o. is_node o && (length (subjects_of graph def.name o) == n)) (all_objects graph def.name) (each (all_objects graph def.name) (λ o. not_second (is_node o) (length (subjects_of graph def.name o) == n) (other_number (length (subjects_of graph def.name o)) n (let few = few_subjects graph def.name o in omega arith))))
 
 none_listed : (def : PredDef) (graph : List Triple) (key : Key) → def.name ≡ pred_of key → has key_cmp (keys_of_def graph def) key ≡ false → listing_by (Some def) graph key ≡ []
 none_listed def graph (Data p s) is h =

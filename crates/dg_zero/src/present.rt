@@ -5,16 +5,16 @@ ghost use Rattle.std.specs.List.{list_any};
 ghost use Rattle.dg_values.specs.Order.{same_text};
 ghost use Rattle.dg_graph.specs.Graphs.{is_of};
 ghost use Rattle.dg_oracle.specs.Commits.{is_among as is_one_of};
-ghost use Rattle.dg_zero.specs.Counters.{active};
+ghost use Rattle.dg_zero.specs.Counters.{active, last};
 ghost use Rattle.dg_zero.specs.Pasts.{entries};
 ghost use Rattle.dg_zero.specs.Recorded.{told};
 ghost use Rattle.dg_zero.specs.Present.{has_object, AreBare, lists_object, parts_list_object, leads_to_object, entries_lead_to_object};
-ghost use Rattle.dg_zero.specs.States.{IsLeastStart};
+ghost use Rattle.dg_zero.specs.States.{IsLeastStart, owners};
 ghost use Rattle.dg_zero.specs.Worlds.{world, schema};
 
 use crate::past::Past;
 use crate::recorded::{Recorded, last_recorded};
-use crate::{Seen, ZeroState};
+use crate::{Owners, Seen, ZeroState};
 use dg_keys::{Key, Part};
 use dg_schema::Schema;
 use dg_values::{Mem, OutOfMemory};
@@ -27,6 +27,20 @@ impl ZeroState {
         ensures { arc_value result.now ≡ schema self.now.history }
     {
         &self.schema
+    }
+
+    /// Which group owns each tablet at present. It takes no memory.
+    pub fn owners(&self) -> &Arc<Owners>
+        ensures { arc_value result.now ≡ owners self.now.history }
+    {
+        &self.owners
+    }
+
+    /// The last timestamp that was handed out, and 0 before the first. It takes no memory.
+    pub fn last(&self) -> u64
+        ensures { result ≡ last self.now.history }
+    {
+        self.oracle.next().saturating_sub(1)
     }
 
     /// The least start that is active; none exactly where no transaction is. It takes no memory.

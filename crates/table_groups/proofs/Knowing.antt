@@ -1,5 +1,5 @@
 -- What is known of active starts and of open transactions, through each entry of the history.
-use Rattle.std.proofs.Common.{◌≡◌, ℕ, zero, suc, ◌+◌, ◌<◌, ◌≤◌, Bool, true, false, cond, List, [], ◌∷◌, ◌++◌, length, get_or, refl, ap, subst, sym, ◌∙◌, arith}
+use Rattle.std.proofs.Common.{◌≡◌, ℕ, zero, suc, ◌+◌, ◌<◌, Bool, true, false, cond, List, [], ◌∷◌, ◌++◌, length, get_or, refl, ap, subst, sym, ◌∙◌, arith}
 use Rattle.std.specs.Prelude.{nat_le, Result, Ok, Err, IfOk, IfErr, OnOk, OnErr}
 use Rattle.std.specs.List.{AllByRecursion, remove}
 use Rattle.std.proofs.Math.ListN.{set}
@@ -15,11 +15,11 @@ use Rattle.dg_zero.specs.declared.entry.Reason.TheVariants as reasons
 use Rattle.dg_zero.specs.declared.fault.CommitFault.{CommitFault}
 use Rattle.dg_zero.specs.declared.fault.CommitFault.TheVariants.{Moving, Conflict, OutOfMemory, TimestampsSpent}
 use Rattle.dg_zero.specs.declared.offer.Offer.{Offer}
-use Rattle.dg_zero.specs.Counters.{Started, next, last, drawn, active, active_after, ended}
+use Rattle.dg_zero.specs.Counters.{Started, next, drawn, active, active_after, ended}
 use Rattle.dg_zero.specs.Legal.{IsLegal}
 use Rattle.dg_zero.specs.Offers.{IsSound, IsMadeOf}
 use Rattle.dg_zero.specs.States.{Zero, and_then, owners, alter_of, commit_of, IsRefusal}
-use Rattle.dg_zero.specs.Worlds.{World, world_after, world_at, stamp, schema, schema_at, graph_at}
+use Rattle.dg_zero.specs.Worlds.{World, world_at, schema, schema_at, graph_at}
 use Rattle.dg_zero.proofs.Histories.{active_push, next_push}
 use Rattle.dg_zero.proofs.LawsOfHistories.{world_at_push, worlds_stay, present_is_last}
 use Rattle.dg_group.specs.Groups.{Group}
@@ -28,7 +28,7 @@ use Rattle.dg_txn.specs.Own.{Transaction}
 use Rattle.dg_txn.specs.Pins.{ArePinsOf}
 use Rattle.table_groups.specs.declared.sessions.Session.{Session}
 use Rattle.table_groups.specs.Opened.{HasBegun, IsOpen, StayOpen, ends}
-use Rattle.table_groups.proofs.Bringing.{all_set, element}
+use Rattle.dg_node.proofs.Bringing.{all_set, element}
 
 -- ---- an entry leaves open transactions as they are
 

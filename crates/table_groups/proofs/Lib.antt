@@ -1,5 +1,2 @@
--- Lemmas on groups that are kept in step, and on what is known between rows.
-mod Alters
-mod Bringing
-mod Keeping
+-- What is known between rows.
 mod Knowing

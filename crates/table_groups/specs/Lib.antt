@@ -1,3 +1,2 @@
--- Groups beside the state that coordinates them, and open transactions.
-pub mod Owning
+-- Open transactions beside a history.
 pub mod Opened

@@ -10,10 +10,10 @@ ghost use Rattle.dg_zero.specs.Worlds.{schema, world, schema_at, graph_at};
 ghost use Rattle.table_groups.specs.Opened.{HasBegun, StayOpen, ends};
 
 use crate::fault::{Answer, Fault};
-use crate::owned::Owned;
 use crate::starts::{Start, drop_ended, drop_start, is_active_of, may_end};
 use dg_edges::is_plain;
 use dg_group::Pinned;
+use dg_node::Owned;
 use dg_schema::{PredDef, Schema};
 use dg_values::{Kind, Mem, OutOfMemory};
 use dg_zero::{Begun, CommitFault, Offer, Slip, ZeroFault, ZeroState};

@@ -6,11 +6,9 @@
 
 mod counted;
 mod counting;
-mod current;
 mod fault;
 mod kept;
 mod listing;
-mod owned;
 mod postings;
 mod rows;
 mod schemas;

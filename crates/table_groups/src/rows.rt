@@ -13,7 +13,7 @@ use dg_group::{GroupState, entries_of_histories, records_of_histories};
 use dg_keys::Key;
 use dg_schema::PredDef;
 use dg_store::Store;
-use dg_txn::{begun_pins, pinned_graphs};
+use dg_txn::{current_pins, pinned_graphs};
 use dg_values::{Mem, OutOfMemory, Str};
 use dg_zero::{CommitFault, ZeroFault};
 use std::alloc::Global;
@@ -32,7 +32,7 @@ pub(crate) fn answer(alloc: Global, kept: &mut Option<Kept>, row: &str) -> Answe
             records_of_histories();
             entries_of_histories();
             pinned_graphs();
-            begun_pins();
+            current_pins();
             told(alloc, "hold")
         }
         _ => match kept {

@@ -1,3 +1,2 @@
 -- Lemmas on what is known between rows.
 mod Knowing
-mod Alters

@@ -1,14 +1,16 @@
-use Rattle.std.proofs.Common.{◌≡◌, IfOk, List, subst, sym, ◌∙◌}
-use Rattle.dg_values.specs.Ascending.{ascending}
-use Rattle.dg_keys.specs.declared.conflict.ConflictKey.{ConflictKey}
-use Rattle.dg_keys.specs.Conflicts.{conflict_cmp}
-use Rattle.dg_edges.specs.Deltas.{data_conflicts}
-use Rattle.dg_edges.proofs.OfferLaws.{keys_stay}
+use Rattle.std.proofs.Common.{◌∙◌}
+use Rattle.dg_edges.specs.Replaced.{read_keys}
+use Rattle.dg_edges.proofs.ReplacedLaws.{none_read}
 use Rattle.dg_edges.proofs.conflicts.conflict_keys.Goals as goal
 
-pub returns-clause-keys : goal.returns-clause-keys
-returns-clause-keys g c =
-    let graph = g.S.Snapshot.graph c.args.snap.now in
+pub returns-in_err-found-clause-plain : goal.returns-in_err-found-clause-plain
+returns-in_err-found-clause-plain g c plain =
     let schema = g.S.Snapshot.declared c.args.snap.now in
-    let e = (λ i. ascending conflict_cmp (data_conflicts (c.schema.ensures i) c.args.changes.now)) ∙ sym (keys_stay schema graph c.args.changes.now c.requires.plain c.requires.fitting) in
-    subst (λ (x : List ConflictKey). IfOk c.conflicts_of.result (λ v. v.items ≡ x)) e c.conflicts_of.ensures
+    let keys = c.in_ok-keys.ensures ∙ ((λ i. read_keys (c.schema.ensures i) c.args.changes.now) ∙ none_read schema c.args.changes.now plain) in
+    c.keys_in_turn.ensures.none (c.as_slice.ensures.value ∙ keys)
+
+pub returns-clause-plain : goal.returns-clause-plain
+returns-clause-plain g c plain =
+    let schema = g.S.Snapshot.declared c.args.snap.now in
+    let keys = c.in_ok-keys.ensures ∙ ((λ i. read_keys (c.schema.ensures i) c.args.changes.now) ∙ none_read schema c.args.changes.now plain) in
+    c.keys_in_turn.ensures.none (c.as_slice.ensures.value ∙ keys)

@@ -1,7 +1,8 @@
 use Rattle.std.proofs.Common.{◌≡◌, [], ◌++◌, get_or, sym, ◌∙◌}
 use Rattle.dg_delta.specs.Ops.{changes_between}
 use Rattle.dg_edges.specs.Deltas.{and_part}
-use Rattle.dg_edges.proofs.ListLaws.{mapped_at, parts_more}
+use Rattle.dg_edges.proofs.AtKeys.{mapped_at}
+use Rattle.dg_edges.proofs.ListLaws.{parts_more}
 use Rattle.dg_edges.proofs.deltas.parts_of.Goals as goal
 
 pub loop-place-preserved : goal.loop-place-preserved

@@ -6,7 +6,8 @@ use Rattle.dg_keys.specs.Keys.{key_cmp}
 use Rattle.dg_keys.specs.declared.key.Key.{Key}
 use Rattle.dg_edges.specs.Deltas.{data_key}
 use Rattle.dg_edges.specs.Lists.{changed_at}
-use Rattle.dg_edges.proofs.ListLaws.{on_ok_with, other_keys, at_place, mapped_at}
+use Rattle.dg_edges.proofs.ListLaws.{on_ok_with, other_keys, at_place}
+use Rattle.dg_edges.proofs.AtKeys.{mapped_at}
 use Rattle.dg_edges.proofs.lists.change_at.Goals as goal
 
 pub returns-in-Ok : goal.returns-in-Ok

@@ -3,7 +3,7 @@ use Rattle.dg_graph.specs.declared.change.Change.{Change}
 use Rattle.dg_graph.specs.declared.change.Triple.{Triple}
 use Rattle.dg_graph.specs.Graphs.{fits, IsLawful}
 use Rattle.dg_graph.specs.Changes.{changed}
-use Rattle.dg_edges.proofs.ListLaws.{all_at}
+use Rattle.dg_edges.proofs.AtKeys.{all_at}
 use Rattle.dg_edges.proofs.OfferLaws.{lawful_goal}
 use Rattle.table_zero.proofs.lawful.made.Goals as goal
 

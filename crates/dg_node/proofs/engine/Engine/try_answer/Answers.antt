@@ -1,5 +1,5 @@
 use Rattle.dg_wire.specs.declared.request.Request.TheVariants as requests
-use Rattle.dg_node.proofs.LeadLemmas.{query_led, discard_led, takes_memory, commit_takes}
+use Rattle.dg_node.proofs.LeadLemmas.{query_led, discard_led, err_spared, begin_spared, takes_memory, commit_takes}
 use Rattle.dg_node.proofs.engine.Engine.try_answer.Goals as goal
 
 pub returns-in-Query-clause-ok : goal.returns-in-Query-clause-ok
@@ -22,3 +22,15 @@ returns-in-Query-clause-wants c = takes_memory c.try_query.result c.args.self.no
 
 pub returns-in-Commit-clause-wants : goal.returns-in-Commit-clause-wants
 returns-in-Commit-clause-wants c = commit_takes c.try_commit.result c.args.self.now c.args.request.now c.in-Commit.sid c.in-Commit.is c.try_commit.ensures.wants
+
+pub returns-in-Alter-clause-err : goal.returns-in-Alter-clause-err
+returns-in-Alter-clause-err c = err_spared c.try_alter.result c.args.self.now c.try_alter.new.self c.args.request.now c.try_alter.ensures.err
+
+pub returns-in-Begin-clause-err : goal.returns-in-Begin-clause-err
+returns-in-Begin-clause-err c = begin_spared c.try_begin.result c.args.self.now c.try_begin.new.self c.args.request.now c.in-Begin.sid c.in-Begin.is c.try_begin.ensures.err
+
+pub returns-in-Mutate-clause-err : goal.returns-in-Mutate-clause-err
+returns-in-Mutate-clause-err c = err_spared c.try_mutate.result c.args.self.now c.try_mutate.new.self c.args.request.now c.try_mutate.ensures.err
+
+pub returns-in-Commit-clause-err : goal.returns-in-Commit-clause-err
+returns-in-Commit-clause-err c = err_spared c.try_commit.result c.args.self.now c.try_commit.new.self c.args.request.now c.try_commit.ensures.err

@@ -24,13 +24,13 @@ returns-in-None-clause-ok c = from_sessions (λ m s.
 
 pub returns-in-Some-clause-ok : goal.returns-in-Some-clause-ok
 returns-in-Some-clause-ok c = from_to (legal_by c.self.view_is c.self.invariant.legal) (λ m s.
-    let z = c.self.inside.zero in
+    let z = c.self.inside.cluster in
     let os = c.self.inside.sessions.items in
     let here : position (λ (o : Opened). o.sid == c.args.sid) c.args.self.now.opened ≡ Some c.in-Some.place = sym c.place_of.ensures.place ∙ c.in-Some.is in
     let there : position (λ (o : Opened). o.sid == c.args.sid) os ≡ Some c.in-Some.place = subst (λ (h : Held). position (λ (o : Opened). o.sid == c.args.sid) h.opened ≡ Some c.in-Some.place) (sym c.self.view_is) here in
     let a = around (λ (o : Opened). o.sid) c.args.sid os c.in-Some.place there in
     let it : c.index.result.now ≡ a.it = it_is (λ (o : Opened). o.sid) c.args.sid os c.in-Some.place a c.index.result.now c.index.ensures in
-    let none : a.it.own ≡ [] = ap (λ (o : Opened). o.own) (sym it) ∙ c.if-is_empty.ensures.0 refl in
+    let none : a.it.txn.own ≡ [] = ap (λ (o : Opened). o.txn.own) (sym it) ∙ c.if-is_empty.ensures.0 refl in
     let stood : StandFor z os m = subst (λ (h : Held). Stands h m) (sym c.self.view_is) s in
     let led = to_all (c.close.ensures c.args.sid here) m s in
     let back = sym led.1 in
@@ -38,11 +38,11 @@ returns-in-Some-clause-ok c = from_to (legal_by c.self.view_is c.self.invariant.
 
 pub returns-in-Some-2-clause-wants : goal.returns-in-Some-2-clause-wants
 returns-in-Some-2-clause-wants c = on_any c.commit_at.result (HasChanges (machine_of c.args.self.now) c.args.sid)
-    (let z = c.self.inside.zero in
+    (let z = c.self.inside.cluster in
     let os = c.self.inside.sessions.items in
     let there : position (λ (o : Opened). o.sid == c.args.sid) os ≡ Some c.in-Some.place = subst (λ (h : Held). position (λ (o : Opened). o.sid == c.args.sid) h.opened ≡ Some c.in-Some.place) (sym c.self.view_is) (sym c.place_of.ensures.place ∙ c.in-Some.is) in
     let a = around (λ (o : Opened). o.sid) c.args.sid os c.in-Some.place there in
     let it : c.index.result.now ≡ a.it = it_is (λ (o : Opened). o.sid) c.args.sid os c.in-Some.place a c.index.result.now c.index.ensures in
-    let some : a.it.own ≢ [] = λ none. false≢true (c.if-is_empty.ensures.1 (ap (λ (o : Opened). o.own) it ∙ none)) in
+    let some : a.it.txn.own ≢ [] = λ none. false≢true (c.if-is_empty.ensures.1 (ap (λ (o : Opened). o.txn.own) it ∙ none)) in
     subst (λ (h : Held). HasChanges (machine_of h) c.args.sid) c.self.view_is
     (subst (λ (x : Option Session). IsSomeAnd x (λ session. session.own ≢ [])) (sym (open_now z os c.self.invariant c.args.sid c.in-Some.place a)) some))

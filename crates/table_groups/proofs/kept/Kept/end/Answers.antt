@@ -1,8 +1,8 @@
-use Rattle.std.proofs.Common.{◌<◌, ◌≡◌, ◌∙◌, List, length, subst, sym}
+use Rattle.std.proofs.Common.{◌<◌, ◌∙◌, List, length, subst, sym}
 use Rattle.std.specs.List.{AllByRecursion}
 use Rattle.table_groups.specs.declared.sessions.Session.{Session}
 use Rattle.table_groups.specs.Opened.{IsOpen}
-use Rattle.table_groups.proofs.Bringing.{element}
+use Rattle.dg_node.proofs.Bringing.{element}
 use Rattle.table_groups.proofs.Knowing.{all_stay, all_removed}
 use Rattle.table_groups.proofs.kept.Kept.end.Goals as goal
 
