@@ -1,13 +1,12 @@
 -- Which lists show that a predicate has a triple, and how they are gone through.
-use Rattle.std.proofs.Common.{◌≡◌, ◌<◌, ◌+◌, ◌∙◌, sym, ap, subst, refl, arith, ℕ, Bool, true, false, cond, List, [], ◌∷◌, ◌++◌, length, filter, map, Option, Some, None}
+use Rattle.std.proofs.Common.{◌≡◌, ◌∙◌, sym, ap, subst, refl, arith, ℕ, Bool, true, false, cond, List, [], ◌∷◌, length, map, Option, Some, None}
 use Rattle.std.specs.Prelude.{◌≤◌, ◌||◌, ◌&&◌, nat_lt, unwrap_or, IsSomeAnd}
 use Rattle.std.proofs.lemmas.Grind.{common_steps}
 use Rattle.std.specs.List.{AllByRecursion, list_any}
 use Rattle.std.specs.Option.{option_map, option_and_then}
-use Rattle.std.specs.declared.cmp.Ordering.{Ordering}
-use Rattle.std.specs.declared.cmp.Ordering.TheVariants.{Less, Equal, Greater}
-use Rattle.std.specs.Ordering.{is_eq, is_le, is_lt, nat_cmp, ordering_then, ordering_reverse}
-use Rattle.dg_values.specs.Order.{posting_cmp, same_text, text_cmp}
+use Rattle.std.specs.declared.cmp.Ordering.TheVariants.{Less}
+use Rattle.std.specs.Ordering.{is_eq, ordering_reverse}
+use Rattle.dg_values.specs.Order.{posting_cmp, same_text}
 use Rattle.dg_values.specs.Ascending.{has}
 use Rattle.dg_values.specs.declared.value.Posting.{Posting}
 use Rattle.dg_values.proofs.OrderLaws.{posting_order}
@@ -21,12 +20,11 @@ use Rattle.dg_graph.proofs.GraphLaws.{triple_order}
 use Rattle.dg_keys.specs.declared.key.Key.{Key}
 use Rattle.dg_keys.specs.declared.key.Key.TheVariants.{Data, Index, Reverse, Count, RCount}
 use Rattle.dg_keys.specs.declared.record.Tablet.{Tablet}
-use Rattle.dg_keys.specs.Keys.{key_cmp, pred_of}
+use Rattle.dg_keys.specs.Keys.{key_cmp}
 use Rattle.dg_keys.specs.KeyOrder.{key_order}
 use Rattle.dg_list.specs.Lists.{Layered, reading}
-use Rattle.dg_pages.specs.Entries.{IsMap, entry_from, entry_above}
+use Rattle.dg_pages.specs.Entries.{IsMap}
 use Rattle.dg_store.specs.Stores.{Lists, list_under, list_at, no_list}
-use Rattle.dg_zero.specs.Listings.{listing}
 use Rattle.dg_edges.proofs.EdgeLaws.{listed_by}
 use Rattle.dg_group.specs.declared.copied.Copied.{Copied}
 use Rattle.dg_group.specs.Groups.{Group}

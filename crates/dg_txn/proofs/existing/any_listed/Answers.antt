@@ -1,5 +1,5 @@
 use Rattle.std.proofs.Common.{◌≡◌, ◌≤◌, ◌<◌, ◌∙◌, sym, ap, subst, ℕ, List, Bool, true, false}
-use Rattle.std.specs.Prelude.{◌&&◌, Option, Some, option_map, nat_lt, length}
+use Rattle.std.specs.Prelude.{◌&&◌, Some, option_map, nat_lt, length}
 use Rattle.std.specs.Arc.{arc_value}
 use Rattle.dg_keys.specs.declared.key.Key.{Key}
 use Rattle.dg_keys.specs.declared.key.Key.TheVariants.{Data}

@@ -1,12 +1,10 @@
-use Rattle.std.proofs.Common.{◌≡◌, ◌∙◌, sym, ap, List, []}
+use Rattle.std.proofs.Common.{◌≡◌, ◌∙◌, ap, List, []}
 use Rattle.std.specs.Arc.{arc_value}
 use Rattle.dg_schema.specs.declared.definition.PredDef.{PredDef}
-use Rattle.dg_graph.specs.declared.change.Triple.{Triple}
-use Rattle.dg_keys.specs.declared.record.Tablet.{Tablet}
 use Rattle.dg_txn.specs.Pins.{ArePinsOf}
 use Rattle.dg_zero.specs.Counters.{last}
 use Rattle.dg_zero.specs.States.{Zero, owners}
-use Rattle.dg_zero.specs.Worlds.{World, world, schema, graph_at}
+use Rattle.dg_zero.specs.Worlds.{world, schema, graph_at}
 use Rattle.dg_node.proofs.Keeping.{present_pins, present_world}
 use Rattle.dg_node.proofs.owned.Owned.present.Goals as goal
 
