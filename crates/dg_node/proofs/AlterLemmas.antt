@@ -114,7 +114,7 @@ not_among start low (x ∷ xs) le a =
     let other : (x == start) ≡ false = grind (arith, common_steps, le, a.0) in
     rw other (not_among start x xs (omega (arith, le, a.0)) a.1)
 
-first_is : (start x low : ℕ) (xs : List ℕ) → start ≤ x → oracle.Ascends low (x ∷ xs) → oracle.is_active (x ∷ xs) start ≡ true → x ≡ start
+pub first_is : (start x low : ℕ) (xs : List ℕ) → start ≤ x → oracle.Ascends low (x ∷ xs) → oracle.is_active (x ∷ xs) start ≡ true → x ≡ start
 first_is start x low xs le a found = by (x == start) refl found
   where
     by : (v : Bool) → (x == start) ≡ v → (v || oracle.is_active xs start) ≡ true → x ≡ start

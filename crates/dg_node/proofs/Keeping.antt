@@ -15,7 +15,10 @@ use Rattle.dg_zero.specs.declared.offer.Offer.{Offer}
 use Rattle.dg_zero.specs.Counters.{next, last}
 use Rattle.dg_zero.specs.Exact.{AreExact}
 use Rattle.dg_zero.specs.Legal.{IsLegal}
-use Rattle.dg_zero.specs.Places.{Places, places, places_after, copies, groups}
+use Rattle.dg_keys.specs.declared.record.Tablet.{Tablet}
+use Rattle.dg_zero.specs.declared.tablets.Phase.TheVariants.{Idle}
+use Rattle.dg_zero.specs.declared.tablets.Place.{Place}
+use Rattle.dg_zero.specs.Places.{Places, places, places_after, copies, groups, tablets, fresh, fresh_place}
 use Rattle.dg_zero.specs.Pasts.{own, spent}
 use Rattle.dg_zero.specs.Records.{next_record}
 use Rattle.dg_zero.specs.States.{Zero, and_then, owners, alter_of, alter_record, commit_of, AreAlterParts, IsRefusal}
@@ -33,7 +36,8 @@ use Rattle.dg_txn.specs.Laws.{AreCurrent}
 use Rattle.dg_txn.specs.Pins.{ArePinsOf}
 use Rattle.dg_txn.proofs.BegunPins.{begun_pins_hold, present_pins_hold}
 use Rattle.dg_edges.proofs.PlainAlters.{plain_joined, no_alter_parts}
-use Rattle.dg_node.specs.Owning.{new_group, IsOwned}
+use Rattle.dg_node.specs.Owning.{new_group, AreAtRest, IsOwned}
+use Rattle.dg_node.proofs.OneAmong.{all_joined}
 
 -- ---- groups that go on with the same history
 
@@ -41,7 +45,7 @@ pub exact_history : (z : Zero) (gs : List Group) → IsOwned z gs → AreExact z
 exact_history z gs k = histories_are_exact z.groups z.history k.legal
 
 pub further_on : (z : Zero) (gs more : List Group) → IsOwned z gs → AllByRecursion (λ g. IsInStep g z.history) more → map (λ (g : Group). g.number) more ≡ map (λ (g : Group). g.number) gs → IsOwned z more
-further_on z gs more k steps same = record { least = k.least; legal = k.legal; plain = k.plain; numbers = same ∙ k.numbers; in_step = steps }
+further_on z gs more k steps same = record { least = k.least; legal = k.legal; idle = k.idle; plain = k.plain; numbers = same ∙ k.numbers; in_step = steps }
 
 pub up_to_date : (z : Zero) (gs : List Group) → IsOwned z gs → AllByRecursion (λ (g : Group). next_record z.history g.last ≡ None) gs → AreCurrent z.groups z.history gs
 up_to_date z gs k all = record { numbers = k.numbers; in_step = k.in_step; applied = all }
@@ -52,6 +56,9 @@ present_pins z gs pins k a = present_pins_hold z.groups z.history pins k.least k
 
 pub present_world : (z : Zero) (gs : List Group) → IsOwned z gs → record { schema = schema z.history; graph = graph_at z.history (last z.history) [] } ≡ world z.history
 present_world z gs k = ap (λ (w : World). record { schema = schema z.history; graph = w.graph }) (present_is_last z.groups z.history (last z.history) k.legal (omega arith))
+
+pub present_plain : (z : Zero) (gs : List Group) → IsOwned z gs → IsPlain (schema z.history)
+present_plain z gs k = subst (λ (w : World). IsPlain w.schema) (present_is_last z.groups z.history (last z.history) k.legal (omega arith)) (k.plain (last z.history))
 
 -- the present schema is plain, so an alter of plain definitions changes no list
 pub no_parts : (z : Zero) (gs : List Group) (newer : List PredDef) → IsOwned z gs → IsPlain newer → AreAlterParts z.history newer []
@@ -77,10 +84,12 @@ owned_after z w gs author event k is legal still =
     let grown : w.history ≡ z.history ++ e ∷ [] = ap (λ (y : Zero). y.history) is in
     let many : w.groups ≡ z.groups = ap (λ (y : Zero). y.groups) is in
     let longer : IsLegal z.groups (z.history ++ e ∷ []) = subst (λ (y : Zero). IsLegal y.groups y.history) is legal in
-    let as_were : copies (z.history ++ e ∷ []) ≡ copies z.history = ap (λ (s : Places). s.copies) (places_push z.history e ∙ still.places_are (places z.history)) in
+    let all_as_were : places (z.history ++ e ∷ []) ≡ places z.history = places_push z.history e ∙ still.places_are (places z.history) in
+    let as_were : copies (z.history ++ e ∷ []) ≡ copies z.history = ap (λ (s : Places). s.copies) all_as_were in
     record {
       least = subst (λ (n : ℕ). 1 ≤ n) (sym many) k.least;
       legal = legal;
+      idle = subst AreAtRest (sym grown) (subst (λ (s : Places). AllByRecursion (λ (t : Place). t.phase ≡ Idle) s.tablets) (sym all_as_were) k.idle);
       plain = λ at. subst IsPlain (sym (ap (λ (h : List Entry). schema_at h at) grown ∙ schema_after z.history e at still)) (k.plain at);
       numbers = k.numbers ∙ sym (ap groups many);
       in_step = all_with (λ g. IsInStep g z.history) (λ g. IsInStep g w.history) gs (λ g s. subst (λ (h : List Entry). IsInStep g h) (sym grown) (entries_keep_in_step z.groups z.history e g longer as_were s)) k.in_step;
@@ -100,7 +109,7 @@ numbers_new (n ∷ ns) = ap (λ more. n ∷ more) (numbers_new ns)
 
 -- transactions that changed nothing leave the groups as new
 spent_owned : (n k : ℕ) → 1 ≤ n → k < 2 ^ 62 → IsOwned (record { groups = n; history = spent k }) (map new_group (groups n))
-spent_owned n zero least lt = record { least = least; legal = tt; plain = λ at. tt; numbers = numbers_new (groups n); in_step = each_new (groups n) }
+spent_owned n zero least lt = record { least = least; legal = tt; idle = tt; plain = λ at. tt; numbers = numbers_new (groups n); in_step = each_new (groups n) }
 spent_owned n (suc k) least lt =
     let lower : k < 2 ^ 62 = omega (arith, lt) in
     let begin : Entry = own (Begin (suc k)) in
@@ -154,6 +163,14 @@ committed_owned z w gs author offer (Err fault) k ok err legal = refused_owned z
 
 -- ---- definitions are added or replaced
 
+-- new tablets are at rest
+fresh_idle : (ts : List Place) (fs : List Tablet) → AllByRecursion (λ (t : Place). t.phase ≡ Idle) ts → AllByRecursion (λ (t : Place). t.phase ≡ Idle) (ts ++ map fresh_place fs)
+fresh_idle ts fs a = all_joined (λ (t : Place). t.phase ≡ Idle) ts (map fresh_place fs) a (rest fs)
+  where
+    rest : (fs : List Tablet) → AllByRecursion (λ (t : Place). t.phase ≡ Idle) (map fresh_place fs)
+    rest [] = tt
+    rest (f ∷ fs) = (refl, rest fs)
+
 alter_owned : AltersKeepInStep → (z w : Zero) (gs : List Group) (author : ℕ) (newer : List PredDef) (parts : List Part) → IsOwned z gs → IsPlain newer → w ≡ and_then z author (alter_of z newer parts) → IsLegal w.groups w.history → IsOwned w gs
 alter_owned keeps z w gs author newer parts k plain is legal =
     let e : Entry = record { author = author; event = alter_of z newer parts } in
@@ -166,6 +183,7 @@ alter_owned keeps z w gs author newer parts k plain is legal =
     record {
       least = subst (λ (n : ℕ). 1 ≤ n) (sym many) k.least;
       legal = legal;
+      idle = subst AreAtRest (sym grown) (subst (λ (s : Places). AllByRecursion (λ (t : Place). t.phase ≡ Idle) s.tablets) (sym (places_push z.history e)) (fresh_idle (tablets z.history) (fresh z.groups (tablets z.history) newer) k.idle));
       plain = λ at. subst (λ (h : List Entry). IsPlain (schema_at h at)) (sym grown) (still at);
       numbers = k.numbers ∙ sym (ap groups many);
       in_step = all_with (λ g. IsInStep g z.history) (λ g. IsInStep g w.history) gs (λ g s. subst (λ (h : List Entry). IsInStep g h) (sym grown) (keeps z.groups z.history author (next z.history) newer (alter_record z newer parts) g longer s)) k.in_step;

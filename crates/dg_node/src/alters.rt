@@ -1,21 +1,22 @@
 // What `alter` does.
-ghost use Rattle.std.specs.Prelude.{◌≡◌, ◌==◌, ◌<◌, not, IfOk};
+ghost use Rattle.std.specs.Prelude.{◌≡◌, ◌≤◌, true, IfOk, OnErr, length};
 ghost use Rattle.std.specs.List.{list_any};
-ghost use Rattle.dg_zero.specs.Legal.{kind_rank};
-ghost use Rattle.dg_node.specs.Alters.{has_directive, is_other_kind, has_data, first_with_data};
+ghost use Rattle.dg_schema.specs.Whole as language;
+ghost use Rattle.dg_zero.specs.Legal.{IsLegal};
+ghost use Rattle.dg_node.specs.Alters.{alters, altered, altered_by, has_directive};
+ghost use Rattle.dg_node.specs.Clusters.{Meets};
+ghost use Rattle.dg_node.specs.Sessions.{Alters};
 
+use crate::cluster::{Cluster, ClusterFault};
 use crate::engine::Engine;
+use crate::obstacles::first_with_data;
 use crate::step::unbuilt;
-use dg_graph::Snapshot;
 use dg_schema::{PredDef, Schema, SchemaFault, read_schema};
-use dg_txn::Present;
-use dg_values::{Kind, Mem, OutOfMemory, Steps, Str};
+use dg_values::{Mem, OutOfMemory};
 use dg_wire::{Refusal, Reply};
 use dg_zero::{Slip, ZeroFault};
 use std::alloc::Global;
-use std::marker::Brand;
 use std::str;
-use std::sync::ledger::{Blank, Ledger};
 
 impl Engine {
     ghost use Rattle.std.specs.Prelude.{◌≡◌, ◌≤◌, [], None, false, IfOk, OnErr, length};
@@ -107,6 +108,88 @@ impl Engine {
     }
 }
 
+/// Adds or replaces the definitions of a text. The author is 0.
+///
+/// `BadToken` and `SchemaSyntax` come at a fault of the text, and `Unbuilt` where a definition has a directive; then `Pending`,
+/// `HasData` and `TimestampsSpent` as the cluster says. After an error nothing has changed.
+pub fn alter<C: Cluster>(alloc: Global, cluster: &mut C, author: u32, body: &[u8]) -> Mem<Reply>
+    requires size { length body.now ≤ 1048576 }
+    requires own { C.takes cluster.old author ≡ true }
+    requires author { author ≡ 0 }
+    requires legal { IsLegal (C.zero cluster.old).groups (C.zero cluster.old).history }
+    ensures same { C.takes cluster.new ≡ C.takes cluster.old }
+    ensures ok { IfOk result (λ reply. Meets (C.takes cluster.old) (C.zero cluster.old) (C.zero cluster.new) (Alters author (λ m n. alters m body.now ≡ (reply, n)))) }
+    ensures err { OnErr result (Meets (C.takes cluster.old) (C.zero cluster.old) (C.zero cluster.new) (Alters author (λ m n. n ≡ m))) }
+    ensures legal { IsLegal (C.zero cluster.new).groups (C.zero cluster.new).history }
+{
+    match str::from_utf8(body) {
+        Ok(text) => alter_by(alloc, cluster, author, text),
+        Err(fault) => Ok(Reply::Refused(Refusal::BadToken {
+            offset: fault.valid_up_to() as u64,
+        })),
+    }
+}
+
+// Adds or replaces the definitions of a text.
+fn alter_by<C: Cluster>(alloc: Global, cluster: &mut C, author: u32, text: &str) -> Mem<Reply>
+    requires size { length text.now ≤ 1048576 }
+    requires own { C.takes cluster.old author ≡ true }
+    requires author { author ≡ 0 }
+    requires legal { IsLegal (C.zero cluster.old).groups (C.zero cluster.old).history }
+    ensures same { C.takes cluster.new ≡ C.takes cluster.old }
+    ensures ok { IfOk result (λ reply. Meets (C.takes cluster.old) (C.zero cluster.old) (C.zero cluster.new) (Alters author (λ m n. altered_by m (language.schema text.now) ≡ (reply, n)))) }
+    ensures err { OnErr result (Meets (C.takes cluster.old) (C.zero cluster.old) (C.zero cluster.new) (Alters author (λ m n. n ≡ m))) }
+    ensures legal { IsLegal (C.zero cluster.new).groups (C.zero cluster.new).history }
+{
+    match read_schema(alloc, text) {
+        Ok(newer) => alter_with(alloc, cluster, author, &newer),
+        Err(SchemaFault::SchemaSyntax { line }) => Ok(Reply::Refused(Refusal::SchemaSyntax {
+            line: u64::from(line),
+        })),
+        Err(SchemaFault::OutOfMemory) => Err(OutOfMemory),
+    }
+}
+
+// Adds or replaces definitions, unless one has a directive.
+fn alter_with<C: Cluster>(
+    alloc: Global,
+    cluster: &mut C,
+    author: u32,
+    newer: &Schema,
+) -> Mem<Reply>
+    requires own { C.takes cluster.old author ≡ true }
+    requires author { author ≡ 0 }
+    requires legal { IsLegal (C.zero cluster.old).groups (C.zero cluster.old).history }
+    ensures same { C.takes cluster.new ≡ C.takes cluster.old }
+    ensures ok { IfOk result (λ reply. Meets (C.takes cluster.old) (C.zero cluster.old) (C.zero cluster.new) (Alters author (λ m n. altered m newer.now ≡ (reply, n)))) }
+    ensures err { OnErr result (Meets (C.takes cluster.old) (C.zero cluster.old) (C.zero cluster.new) (Alters author (λ m n. n ≡ m))) }
+    ensures legal { IsLegal (C.zero cluster.new).groups (C.zero cluster.new).history }
+{
+    if has_directives(newer.definitions()) {
+        return Ok(unbuilt());
+    }
+    let slip = Slip::new(alloc, author)?;
+    match cluster.alter(alloc, slip, newer) {
+        Ok((start, commit)) => Ok(Reply::Alter { start, commit }),
+        Err(ClusterFault::Pending { start }) => Ok(Reply::Refused(Refusal::Pending { start })),
+        Err(ClusterFault::Moving { pred }) => Ok(Reply::Refused(Refusal::Moving { pred })),
+        Err(ClusterFault::HasData { pred }) => Ok(Reply::Refused(Refusal::HasData { pred })),
+        Err(ClusterFault::TimestampsSpent { next }) => {
+            Ok(Reply::Refused(Refusal::TimestampsSpent { next }))
+        }
+        Err(ClusterFault::OutOfMemory) => Err(OutOfMemory),
+        Err(
+            ClusterFault::NoPredicate
+            | ClusterFault::UidsSpent { .. }
+            | ClusterFault::NoGroup { .. }
+            | ClusterFault::SameGroup { .. }
+            | ClusterFault::AlreadyMoving
+            | ClusterFault::NotMoving { .. }
+            | ClusterFault::OldCopy { .. },
+        ) => unreachable!(),
+    }
+}
+
 // Whether a definition has a directive.
 fn has_directive(definition: &PredDef) -> bool
     ensures { result ≡ has_directive definition.now }
@@ -121,62 +204,4 @@ fn has_directives(definitions: &[PredDef]) -> bool
     definitions
         .iter()
         .any(|definition| has_directive(definition))
-}
-
-// Whether two kinds are two.
-fn are_other(a: Kind, b: Kind) -> bool
-    ensures { result ≡ not (kind_rank a == kind_rank b) }
-{
-    a as u8 != b as u8
-}
-
-// Whether a definition has another kind than an older one, or is a list where that is none, or none where that is one.
-fn is_other_kind(definition: &PredDef, older: &PredDef) -> bool
-    ensures { result ≡ is_other_kind definition.now older.now }
-{
-    are_other(definition.kind, older.kind) || definition.list != older.list
-}
-
-// Whether the predicate has a triple, and would change its kind, or whether it is a list.
-fn has_data<L: Ledger>(
-    alloc: Global,
-    present: &Present,
-    definition: &PredDef,
-    reads: &mut Steps<L>,
-) -> Mem<bool>
-    ensures { IfOk result (λ has. has ≡ has_data present.now.schema present.now.graph definition.now) }
-{
-    let name = definition.name.as_str();
-    match present.schema().lookup(name) {
-        Some(older) if is_other_kind(definition, older) => present.has_triple(alloc, name, reads),
-        _ => Ok(false),
-    }
-}
-
-// The first such predicate, in the order of the definitions.
-fn first_with_data(alloc: Global, present: &Present, definitions: &[PredDef]) -> Mem<Option<Str>>
-    ensures { IfOk result (λ found. found ≡ first_with_data present.now.schema present.now.graph definitions.now) }
-{
-    first_in::<Brand>(alloc, present, definitions, Blank::new(1))
-}
-
-// The same, on a ledger of its own for the lists that are read.
-fn first_in<L: Ledger>(
-    alloc: Global,
-    present: &Present,
-    definitions: &[PredDef],
-    blank: Blank,
-) -> Mem<Option<Str>>
-    requires name { blank.name ≡ L.name }
-    requires parts { blank.parts ≡ L.parts }
-    requires some { 0 < blank.parts }
-    ensures { IfOk result (λ found. found ≡ first_with_data present.now.schema present.now.graph definitions.now) }
-{
-    let mut reads = Steps::<L>::new(blank);
-    for definition in definitions {
-        if has_data(alloc, present, definition, &mut reads)? {
-            return Ok(Some(definition.name.copy(alloc)?));
-        }
-    }
-    Ok(None)
 }

@@ -9,12 +9,18 @@ ghost use Rattle.dg_zero.specs.Legal.{IsLegal};
 ghost use Rattle.dg_zero.specs.Offers.{IsSound, IsMadeOf};
 ghost use Rattle.dg_zero.specs.Pasts.{spent};
 ghost use Rattle.dg_zero.specs.Places.{tablets};
-ghost use Rattle.dg_zero.specs.States.{and_then, owners, alter_of, commit_of, first_held, IsBeginFault, IsAlterFault, IsRefusal, KeepKinds};
+ghost use Rattle.dg_zero.specs.States.{and_then, owners, alter_of, commit_of, first_held, IsBeginFault, IsAlterFault, IsRefusal, KeepKinds, AreAlterParts};
 ghost use Rattle.dg_zero.specs.Verdicts.{verdict};
+ghost use Rattle.dg_node.specs.Alters.{first_with_data};
+ghost use Rattle.dg_node.specs.Clusters.{Meets, EndsAt, IsAlterFault as IsHindrance};
+ghost use Rattle.dg_node.specs.Owning.{AreAtRest};
 ghost use Rattle.dg_zero.specs.Worlds.{world, schema, schema_at, graph_at};
 
+use crate::cluster::{Cluster, ClusterFault};
 use crate::current::{new_groups, pinned};
+use crate::obstacles::first_with_data;
 use dg_group::{GroupState, Pinned, entries_of_histories};
+use dg_keys::Part;
 use dg_schema::Schema;
 use dg_txn::Present;
 use dg_values::{List, Mem, OutOfMemory};
@@ -183,5 +189,102 @@ impl Owned {
         // An alter keeps the groups in step.
         entries_of_histories();
         self.zero.alter(slip, newer, List::new(alloc))
+    }
+}
+
+impl Owned {
+    /// The history is legal, and no tablet is being moved, since moves aren't built.
+    pub fn at_rest(&self)
+        ensures legal { IsLegal self.now.groups self.now.history }
+        ensures idle { AreAtRest self.now.history }
+    {
+        let _ = &self.zero;
+    }
+
+    // What lists gain and lose by definitions without index, reverse and count: nothing.
+    fn alter_parts(&self, alloc: Global, _newer: &Schema) -> Mem<List<Part>>
+        requires plain { IsPlain _newer.now }
+        ensures { IfOk result (AreAlterParts self.now.history _newer.now) }
+    {
+        let _ = &self.zero;
+        Ok(List::new(alloc))
+    }
+
+    // What an alter writes, or why the definitions may not be added now. Nothing is appended.
+    fn prepare(&mut self, alloc: Global, newer: &Schema) -> Result<List<Part>, ClusterFault>
+        requires plain { IsPlain newer.now }
+        ensures same { self.new ≡ self.old }
+        ensures parts { IfOk result (AreAlterParts self.old.history newer.now) }
+        ensures no_data { OnOk result (first_with_data (schema self.old.history) (world self.old.history).graph newer.now ≡ None) }
+        ensures fault { IfErr result (IsHindrance self.old.history newer.now) }
+    {
+        if let Some(start) = self.zero.first_active() {
+            return Err(ClusterFault::Pending { start });
+        }
+        let present = self.present(alloc)?;
+        if let Some(pred) = first_with_data(alloc, &present, newer.definitions())? {
+            return Err(ClusterFault::HasData { pred });
+        }
+        Ok(self.alter_parts(alloc, newer)?)
+    }
+}
+
+/// It takes each author, and no one else appends.
+impl Cluster for Owned {
+    ghost use Rattle.std.specs.Prelude.{true};
+
+    ghost zero = { λ owned. owned };
+
+    ghost takes = { λ owned author. true };
+
+    fn begin(&mut self, alloc: Global, slip: Slip) -> Result<(Begun, Vec<Pinned>), ClusterFault> {
+        let Ok(pins) = pinned(alloc, &self.zero, &mut self.groups) else {
+            self.zero.look(slip);
+            return Err(ClusterFault::OutOfMemory);
+        };
+        match self.zero.begin(slip) {
+            Ok(begun) => Ok((begun, pins)),
+            Err(fault) => Err(ClusterFault::from(fault)),
+        }
+    }
+
+    fn lease(&mut self, slip: Slip, top: u64, count: u64) -> Result<u64, ClusterFault> {
+        match self.zero.lease(slip, top, count) {
+            Ok(first) => Ok(first),
+            Err(fault) => Err(ClusterFault::from(fault)),
+        }
+    }
+
+    fn commit(&mut self, slip: Slip, offer: Offer) -> Result<u64, CommitFault> {
+        self.zero.commit(slip, offer)
+    }
+
+    fn end(&mut self, slip: Slip, start: u64) -> bool {
+        self.zero.end(slip, start)
+    }
+
+    fn alter(
+        &mut self,
+        alloc: Global,
+        slip: Slip,
+        newer: &Schema,
+    ) -> Result<(u64, u64), ClusterFault> {
+        let parts = match self.prepare(alloc, newer) {
+            Ok(parts) => parts,
+            Err(fault) => {
+                self.zero.look(slip);
+                return Err(fault);
+            }
+        };
+        // An alter keeps the groups in step.
+        entries_of_histories();
+        match self.zero.alter(slip, newer, parts) {
+            Ok(drawn) => Ok(drawn),
+            Err(fault) => Err(ClusterFault::from(fault)),
+        }
+    }
+
+    fn declared(&self, pred: &str) -> bool {
+        self.zero.schema().lookup(pred).is_some()
     }
 }

@@ -43,7 +43,7 @@ returns-in-Ok-clause-ok c = from_all (legal_by c.self.view_is c.self.invariant.l
     let start : c.in-Ok.start ≡ m.next = c.in-Ok.ensures.drawn.0 ∙ sym stood.next_is in
     let ts : c.in-Ok.commit ≡ m.next + 1 = c.in-Ok.ensures.drawn.1 ∙ ap (λ (n : ℕ). n + 1) (sym stood.next_is) in
     let n : Machine = record { groups = m.groups; next = m.next + 2; next_uid = m.next_uid; alters = m.alters ++ (record { start = m.next; ts = m.next + 1; definitions = c.args.newer.now }) ∷ []; commits = m.commits; sessions = m.sessions } in
-    (n, declared_is m c.args.newer.now c.in-Ok.start c.in-Ok.commit lt start ts, subst (λ (w : Zero). StandFor w os n) (sym is) (stand_alter z os m stood 0 c.args.newer.now [])))
+    (n, declared_is m c.args.newer.now c.in-Ok.start c.in-Ok.commit lt start ts, subst (λ (w : Zero). StandFor w os n) (sym is) (stand_alter z (map session_from os) m stood 0 c.args.newer.now [])))
 
 pub unreachable-requires-in-Err-Moving : goal.unreachable-requires-in-Err-Moving
 unreachable-requires-in-Err-Moving c =

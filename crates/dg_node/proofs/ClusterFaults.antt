@@ -1,0 +1,41 @@
+-- Refusals of the state that coordinates all, as refusals of a cluster.
+use Rattle.std.proofs.Common.{◌≡◌, ℕ, List, [], None, refl, subst, sym, ap, ◌∙◌}
+use Rattle.dg_schema.specs.declared.definition.PredDef.{PredDef}
+use Rattle.dg_zero.specs.declared.entry.Entry.{Entry}
+use Rattle.dg_zero.specs.declared.fault.ZeroFault.{ZeroFault}
+use Rattle.dg_zero.specs.declared.fault.ZeroFault.TheVariants as zeros
+use Rattle.dg_zero.specs.Counters.{next, next_uid, leased}
+use Rattle.dg_zero.specs.Worlds.{world, schema}
+use Rattle.dg_zero.specs.States as states
+use Rattle.dg_node.specs.declared.cluster.ClusterFault.{ClusterFault}
+use Rattle.dg_node.specs.Alters.{first_with_data}
+use Rattle.dg_node.specs.Clusters.{IsBeginFault, IsLeaseFault, IsAlterFault, cluster_fault}
+
+pub begin_fault : (h : List Entry) (f : ZeroFault) → states.IsBeginFault (next h) f → IsBeginFault h (cluster_fault f)
+begin_fault h zeros.OutOfMemory is = tt
+begin_fault h (zeros.TimestampsSpent spent) is = is
+begin_fault h (zeros.UidsSpent spent) is = is
+begin_fault h (zeros.Pending start) is = is
+begin_fault h (zeros.Moving pred) is = is
+begin_fault h (zeros.NoGroup group) is = is
+begin_fault h (zeros.SameGroup group) is = is
+begin_fault h zeros.AlreadyMoving is = is
+begin_fault h (zeros.OldCopy group until) is = is
+begin_fault h (zeros.NotMoving phase) is = is
+begin_fault h zeros.NoPredicate is = is
+
+pub lease_fault : (h : List Entry) (top count : ℕ) (f : ZeroFault) → (leased h top count ≡ None) × (f ≡ zeros.UidsSpent (next_uid h)) → IsLeaseFault h top count (cluster_fault f)
+lease_fault h top count f is = subst (λ (g : ZeroFault). IsLeaseFault h top count (cluster_fault g)) (sym is.1) (is.0, refl)
+
+pub alter_fault : (h : List Entry) (newer : List PredDef) (f : ZeroFault) → first_with_data (schema h) (world h).graph newer ≡ None → states.IsAlterFault h newer f → IsAlterFault h newer (cluster_fault f)
+alter_fault h newer zeros.OutOfMemory free is = tt
+alter_fault h newer (zeros.TimestampsSpent spent) free is = (is.0, is.1, free, is.2, is.3)
+alter_fault h newer (zeros.UidsSpent spent) free is = is
+alter_fault h newer (zeros.Pending start) free is = is
+alter_fault h newer (zeros.Moving pred) free is = is
+alter_fault h newer (zeros.NoGroup group) free is = is
+alter_fault h newer (zeros.SameGroup group) free is = is
+alter_fault h newer zeros.AlreadyMoving free is = is
+alter_fault h newer (zeros.OldCopy group until) free is = is
+alter_fault h newer (zeros.NotMoving phase) free is = is
+alter_fault h newer zeros.NoPredicate free is = is
