@@ -8,19 +8,21 @@ look at the graph begins with the first commit. It was written from the meaning 
 from the program, so that the two can be compared (`random_scripts.py`): proofs say that the program
 does what the definitions in `specs/` say, and this asks whether those say what they should.
 
-Queries of another form than `{ q(func: uid(0xUID)) { NAME } }`, directives and the verbs that aren't
-built answer 98. It ends with 4 where the script isn't frames to its end, as the program does. It needs
-Python 3.9 or later.
+Queries of another form than `{ q(func: uid(0xUID)) { NAME } }` and the verbs that aren't built answer
+98. It ends with 4 where the script isn't frames to its end, as the program does. It needs Python 3.9 or
+later. Values stand in `plain_values.py`, graphs and the keys of conflicts in `plain_graph.py`.
 """
 
 from __future__ import annotations
 
-import json
 import re
 import sys
 from collections.abc import Iterable, Iterator
 from dataclasses import dataclass, field
 from typing import NamedTuple, Optional, Union
+
+from plain_graph import TOKENIZERS, Change, ConflictKey, Definition, Graph, apply, conflict_keys
+from plain_values import KINDS, NODE, Posting, json_text, read_posting
 
 LAST_UID = 2**62 - 1
 LAST_TIMESTAMP = 2**62 - 1
@@ -35,112 +37,6 @@ class Refusal(Exception):
     def __init__(self, number: int, *words: object) -> None:
         super().__init__(number)
         self.line = " ".join(str(word) for word in ("error", number, *words))
-
-
-# ---------------------------------------------------------------------------------------------------
-# Values
-# ---------------------------------------------------------------------------------------------------
-
-
-class Moment(NamedTuple):
-    """Seconds from 1970 on in UTC, and nanoseconds."""
-
-    seconds: int
-    nanoseconds: int
-
-
-Value = Union[str, int, bool, Moment]
-
-
-class Posting(NamedTuple):
-    """What stands in a list: a node, or a value of a kind. Nodes come first, then the ranks of kinds."""
-
-    rank: int
-    key: Union[int, bytes, Moment]
-
-    def value(self) -> Value:
-        if self.rank == TEXT:
-            assert isinstance(self.key, bytes)
-            return self.key.decode()
-        assert not isinstance(self.key, bytes)
-        return bool(self.key) if self.rank == BOOL else self.key
-
-
-NODE, INT, TEXT, BOOL, TIME = range(5)
-RANKS = {"int": INT, "string": TEXT, "default": TEXT, "bool": BOOL, "dateTime": TIME}
-KINDS = {word: word for word in ("default", "string", "int", "bool", "dateTime", "uid")}
-KINDS["datetime"] = "dateTime"
-
-WHEN = re.compile(
-    r"(\d{4})-(\d\d)-(\d\d)"
-    r"(?:[Tt](\d\d):(\d\d):(\d\d)(?:\.(\d{1,9}))?(?:[Zz]|([+-])(\d\d):(\d\d))?)?",
-    re.ASCII,
-)
-
-
-def days_before(year: int, month: int, day: int) -> int:
-    """The days from 0000-01-01 to a date of the Gregorian calendar."""
-    leap = year % 4 == 0 and year % 100 != 0 or year % 400 == 0
-    lengths = [31, 29 if leap else 28, 31, 30, 31, 30, 31, 31, 30, 31, 30, 31]
-    past = year - 1
-    years = 365 * year + (past // 4 - past // 100 + past // 400 + 1 if year else 0)
-    return years + sum(lengths[: month - 1]) + day - 1
-
-
-def days_in(year: int, month: int) -> int:
-    nexts = (year + 1, 1) if month == 12 else (year, month + 1)
-    return days_before(*nexts, 1) - days_before(year, month, 1)
-
-
-EPOCH = days_before(1970, 1, 1)
-
-
-def read_moment(text: str) -> Optional[Moment]:
-    parts = WHEN.fullmatch(text)
-    if parts is None:
-        return None
-    year, month, day, hour, minute, second = (int(part or 0) for part in parts.groups()[:6])
-    hours, minutes = int(parts[9] or 0), int(parts[10] or 0)
-    if not 1 <= month <= 12 or not 1 <= day <= days_in(year, month):
-        return None
-    if hour > 23 or minute > 59 or second > 59 or hours > 23 or minutes > 59:
-        return None
-    ahead = (hours * 3600 + minutes * 60) * (-1 if parts[8] == "-" else 1)
-    since = days_before(year, month, day) * 86400 + hour * 3600 + minute * 60 + second - ahead
-    if not 0 <= since < days_before(10000, 1, 1) * 86400:
-        return None
-    return Moment(since - EPOCH * 86400, int((parts[7] or "").ljust(9, "0")))
-
-
-def moment_text(moment: Moment) -> str:
-    days, rest = divmod(moment.seconds + EPOCH * 86400, 86400)
-    year = next(y for y in range(days // 366, 10000) if days < days_before(y + 1, 1, 1))
-    month = next(m for m in range(12, 0, -1) if days_before(year, m, 1) <= days)
-    day = days - days_before(year, month, 1) + 1
-    fraction = f".{moment.nanoseconds:09}".rstrip("0") if moment.nanoseconds else ""
-    clock = f"{rest // 3600:02}:{rest // 60 % 60:02}:{rest % 60:02}"
-    return f"{year:04}-{month:02}-{day:02}T{clock}{fraction}Z"
-
-
-def read_posting(kind: str, text: str) -> Optional[Posting]:
-    """What a text reads as, where it reads as a value of the kind."""
-    key: Union[int, bytes, Moment, None] = None
-    if kind in ("string", "default"):
-        key = text.encode()
-    elif kind == "int" and re.fullmatch(r"[-+]?[0-9]+", text):
-        number = int(text)
-        key = number if -(2**63) <= number < 2**63 else None
-    elif kind == "bool":
-        key = {"false": 0, "true": 1}.get(text)
-    elif kind == "dateTime":
-        key = read_moment(text)
-    return None if key is None else Posting(RANKS[kind], key)
-
-
-def json_text(posting: Posting) -> str:
-    """A value as an answer shows it."""
-    value = posting.value()
-    return json.dumps(moment_text(value) if isinstance(value, Moment) else value, ensure_ascii=False)
 
 
 # ---------------------------------------------------------------------------------------------------
@@ -261,30 +157,25 @@ def is_whole(form: re.Pattern[str], text: str) -> bool:
 # ---------------------------------------------------------------------------------------------------
 
 
-# The kind of each tokenizer.
-TOKENIZERS = {
-    **dict.fromkeys(("exact", "hash", "term", "trigram"), "string"),
-    **dict.fromkeys(("year", "month", "day", "hour"), "dateTime"),
-    "int": "int",
-    "bool": "bool",
-}
 # The tokenizer that an index without a list stands for.
 OWN_TOKENIZERS = {"int": "int", "bool": "bool", "dateTime": "year"}
 
 
-class Definition(NamedTuple):
+class Type(NamedTuple):
     kind: str
     is_list: bool
 
 
 class SchemaReader(Reader):
-    """Reads definitions. Their directives are read and checked, and answer 98 where there is no fault."""
+    """Reads definitions."""
 
     def __init__(self, text: str) -> None:
         tokens, stop = lex(text)
         end = Token("end", "", len(text.encode())) if stop is None else Token("none", "", stop)
         super().__init__(tokens, end)
         self.text = text.encode()
+        # Of the definition that is being read.
+        self.tokenizers: list[str] = []
 
     def refuse(self, token: Token) -> Refusal:
         return Refusal(27, "SchemaSyntax", 1 + self.text[: token.offset].count(b"\n"))
@@ -295,13 +186,13 @@ class SchemaReader(Reader):
             raise self.refuse(word)
         return word.says
 
-    def type(self) -> Definition:
+    def type(self) -> Type:
         if self.next().kind != "[":
-            return Definition(KINDS[self.word_of(KINDS)], False)
+            return Type(KINDS[self.word_of(KINDS)], False)
         self.take()
         kind = KINDS[self.word_of(KINDS)]
         self.want("]")
-        return Definition(kind, True)
+        return Type(kind, True)
 
     def index(self, kind: str) -> list[str]:
         """The tokenizers of an index, of which a string and what has none must name some."""
@@ -318,6 +209,7 @@ class SchemaReader(Reader):
     def directives(self, kind: str) -> tuple[list[str], bool]:
         """The words of the directives, and whether they fit one another and the kind."""
         words: list[str] = []
+        self.tokenizers = []
         fit = True
         while self.next().kind == "at":
             word = self.take()
@@ -325,30 +217,27 @@ class SchemaReader(Reader):
                 raise self.refuse(word)
             words.append(word.says)
             if word.says == "index":
-                tokenizers = self.index(kind)
-                fit = fit and all(TOKENIZERS.get(one) == kind for one in tokenizers)
-                fit = fit and len(set(tokenizers)) == len(tokenizers)
+                self.tokenizers = self.index(kind)
+                fit = fit and all(TOKENIZERS.get(one) == kind for one in self.tokenizers)
+                fit = fit and len(set(self.tokenizers)) == len(self.tokenizers)
         fit = fit and len(set(words)) == len(words)
         fit = fit and ("reverse" not in words or kind == "uid")
         return words, fit and ("upsert" not in words or "index" in words)
 
     def read(self) -> dict[str, Definition]:
         found: dict[str, Definition] = {}
-        built = True
         while self.next().kind != "end":
             name = self.take()
             if name.kind not in ("name", "iri") or not is_whole(NAME, name.says):
                 raise self.refuse(name)
             self.want(":")
-            definition = self.type()
-            words, fit = self.directives(definition.kind)
+            kind, is_list = self.type()
+            words, fit = self.directives(kind)
             self.want(".")
             if name.says in RESERVED or name.says in found or not fit:
                 raise self.refuse(name)
-            found[name.says] = definition
-            built = built and not words
-        if not built:
-            raise Refusal(98, "Unbuilt")
+            flags = (word in words for word in ("reverse", "count", "upsert"))
+            found[name.says] = Definition(kind, is_list, tuple(self.tokenizers), *flags)
         return found
 
 
@@ -478,45 +367,20 @@ class MutationReader(Reader):
 # ---------------------------------------------------------------------------------------------------
 
 
-class Change(NamedTuple):
-    deletes: bool
-    subject: int
-    predicate: str
-    object: Posting
-    is_list: bool
+class Commit(NamedTuple):
+    """What was committed at a timestamp, and the keys that it was judged by."""
 
-    def key(self) -> ConflictKey:
-        return ConflictKey(self.predicate, self.subject, (self.object,) if self.is_list else ())
-
-
-class ConflictKey(NamedTuple):
-    """What two commits must not both name: an object of a list, or the one object of a subject."""
-
-    predicate: str
-    subject: int
-    object: tuple[Posting, ...]
-
-    def text(self) -> str:
-        shown = [hex(posting.key) if posting.rank == NODE else json_text(posting) for posting in self.object]
-        return " ".join(["data", self.predicate, hex(self.subject), *shown])
-
-
-Graph = dict[tuple[str, int], frozenset[Posting]]
-
-
-def apply(graph: Graph, changes: list[Change]) -> None:
-    for change in changes:
-        place = (change.predicate, change.subject)
-        there = graph.get(place, frozenset())
-        if change.deletes:
-            graph[place] = there - {change.object}
-        else:
-            graph[place] = (there if change.is_list else frozenset()) | {change.object}
+    timestamp: int
+    changes: list[Change]
+    keys: set[ConflictKey]
 
 
 @dataclass
 class Session:
+    """An open transaction: its start, the schema there, and the changes that were asked for."""
+
     start: int
+    schema: dict[str, Definition]
     changes: list[Change] = field(default_factory=list)
 
 
@@ -539,7 +403,7 @@ class PlainMachine:
         self.timestamp = timestamp
         self.uid = 1
         self.schema: dict[str, Definition] = {}
-        self.commits: list[tuple[int, list[Change]]] = []
+        self.commits: list[Commit] = []
         self.sessions: dict[int, Session] = {}
 
     def answer(self, verb: str, session: int, body: bytes) -> bytes:
@@ -566,9 +430,9 @@ class PlainMachine:
 
     def graph_at(self, start: int) -> Graph:
         graph: Graph = {}
-        for timestamp, changes in self.commits:
-            if timestamp <= start:
-                apply(graph, changes)
+        for commit in self.commits:
+            if commit.timestamp <= start:
+                apply(graph, commit.changes)
         return graph
 
     def view(self, session: Session) -> Graph:
@@ -582,16 +446,17 @@ class PlainMachine:
             raise Refusal(20, "Pending", min(session.start for session in self.sessions.values()))
         held = {predicate for (predicate, _), objects in self.graph_at(self.timestamp).items() if objects}
         for name, definition in newer.items():
-            if name in held and self.schema[name] != definition:
+            # Directives may change freely.
+            if name in held and self.schema[name].shape != definition.shape:
                 raise Refusal(22, "HasData", name)
         start = self.draw(2)
-        self.schema.update(newer)
+        self.schema = {**self.schema, **newer}
         return b"ok alter %d %d\n" % (start, start + 1)
 
     def begin(self, number: int) -> bytes:
         if number in self.sessions:
             raise Refusal(2, "SessionOpen", number)
-        self.sessions[number] = Session(self.draw())
+        self.sessions[number] = Session(self.draw(), self.schema)
         return b"ok begin %d %d\n" % (number, self.sessions[number].start)
 
     def discard(self, number: int, _: bytes) -> bytes:
@@ -603,26 +468,23 @@ class PlainMachine:
         if not session.changes:
             del self.sessions[number]
             return b"ok commit %d 0\n" % number
-        for key in sorted({change.key() for change in session.changes}):
-            later = [
-                timestamp
-                for timestamp, changes in self.commits
-                if timestamp > session.start and any(change.key() == key for change in changes)
-            ]
+        keys = conflict_keys(self.graph_at(session.start), session.changes)
+        for key in sorted(keys):
+            later = [one.timestamp for one in self.commits if one.timestamp > session.start and key in one.keys]
             if later:
                 del self.sessions[number]
                 raise Refusal(19, "Conflict", max(later), key.text())
         timestamp = self.draw()
         del self.sessions[number]
-        self.commits.append((timestamp, session.changes))
+        self.commits.append(Commit(timestamp, session.changes, keys))
         return b"ok commit %d %d\n" % (number, timestamp)
 
-    def resolved(self, statement: Statement) -> Union[Node, Posting, None]:
-        """The object of a statement under the schema."""
+    def resolved(self, schema: dict[str, Definition], statement: Statement) -> Union[Node, Posting, None]:
+        """The object of a statement under a schema."""
         name, said = statement.predicate, statement.object
-        if name not in self.schema:
+        if name not in schema:
             raise Refusal(13, "NoPredicate", name)
-        kind = self.schema[name].kind
+        kind = schema[name].kind
         if said is None:
             return None
         if isinstance(said, Node) != (kind == "uid"):
@@ -647,7 +509,7 @@ class PlainMachine:
     def mutate(self, number: int, body: bytes) -> bytes:
         session = self.sessions[number]
         statements = MutationReader(text_of(body)).read()
-        objects = [self.resolved(statement) for statement in statements]
+        objects = [self.resolved(session.schema, statement) for statement in statements]
         nodes = [
             node
             for statement, said in zip(statements, objects)
@@ -665,8 +527,8 @@ class PlainMachine:
                 each = [Posting(NODE, numbers.get(said.name, said.uid))]
             else:
                 each = [said]
-            is_list = self.schema[statement.predicate].is_list
-            session.changes += [Change(statement.deletes, subject, place[0], one, is_list) for one in each]
+            definition = session.schema[statement.predicate]
+            session.changes += [Change(statement.deletes, subject, place[0], one, definition) for one in each]
         self.uid = next_uid
         uids = ",".join(f'"{name}":"{hex(uid)}"' for name, uid in sorted(numbers.items()))
         return with_body("mutate", number, f'{{"uids":{{{uids}}}}}')
@@ -675,11 +537,12 @@ class PlainMachine:
         place = asked(body)
         assert place is not None
         name, _ = place
-        objects = self.view(self.sessions[number]).get(place, frozenset())
+        session = self.sessions[number]
+        objects = self.view(session).get(place, frozenset())
         shown = [json_text(posting) for posting in sorted(objects) if posting.rank != NODE]
         node = ""
         if shown:
-            text = f"[{','.join(shown)}]" if self.schema[name].is_list else shown[0]
+            text = f"[{','.join(shown)}]" if session.schema[name].is_list else shown[0]
             node = f'{{"{name}":{text}}}'
         answer = f'{{"data":{{"q":[{node}]}}}}'
         if len(answer.encode()) > LONGEST_ANSWER:

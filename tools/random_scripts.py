@@ -7,48 +7,60 @@
 `compare` runs the built program over so many scripts, each drawn from its number, and ends with 1
 where the program does otherwise than `plain_machine.py`; it shows the request and both replies. `print`
 writes one of them. Most requests are sound; some statements have a fault, and some bodies and scripts
-a byte more, less or in the place of another. In a third of the scripts many sessions write a few nodes,
-so that many commits meet a conflict: of a hundred scripts or more, one reply in fifty has to be one, or
-`compare` ends with 1. Where no first number is given it follows from the day, so that no two days have
-the same scripts; the numbers are printed. It needs Python 3.9 or later.
+a byte more, less or in the place of another. Predicates have directives, which change over data. In a
+third of the scripts many sessions write at once: a few nodes, lists whose values share tokens, or a node
+each and the same values or edges. So many commits meet a conflict: of a hundred scripts or more, one
+reply in fifty has to be one, and one in two thousand by each kind of key, or `compare` ends with 1. Where
+no first number is given it follows from the day, so that no two days have the same scripts; the numbers
+are printed. It needs Python 3.9 or later.
 """
 
 from __future__ import annotations
 
 import argparse
 import random
+import re
 import subprocess
 import sys
 import time
 from collections import Counter
 from collections.abc import Iterator
+from itertools import permutations
 from pathlib import Path
+from typing import NamedTuple
 
 import plain_machine as plain
 
 # How many seconds the program may take for a script.
 SECONDS = 60
-# One reply in so many has to be a conflict, where so many scripts are compared.
+# One reply in so many has to be a conflict, and in so many by a key of each kind, where so many scripts are compared.
 ONE_CONFLICT_IN = 50
+ONE_OF_EACH_IN = 2000
 ENOUGH = 100
+KEYS = ["data", "index of a node", "index", "count", "rcount"]
 # Scripts of a day and of the next are so many numbers apart.
 A_DAY = 100_000
 PROGRAM = Path(__file__).resolve().parent.parent / "crates" / "dgraph" / "out" / "dgraph"
 
-SCHEMA = """
-name: string .
-note: default .
-age: int .
-ok: bool .
-born: dateTime .
-boss: uid .
-<friend>: [uid] .
-tags: [string] .
-nums: [int] .
-flags: [bool] .
-days: [datetime] .
-"""
-PREDICATES = "name note age ok born boss friend tags nums flags days".split()
+# The type of each predicate that every script declares first.
+TYPED = {
+    "name": "string",
+    "note": "default",
+    "age": "int",
+    "ok": "bool",
+    "born": "dateTime",
+    "boss": "uid",
+    "friend": "[uid]",
+    "tags": "[string]",
+    "nums": "[int]",
+    "flags": "[bool]",
+    "days": "[datetime]",
+}
+PREDICATES = list(TYPED)
+LISTS = [name for name, kind in TYPED.items() if kind[0] == "["]
+# Predicates of which an index can be declared.
+INDEXED = [name for name in PREDICATES if name not in ("note", "boss", "friend")]
+EDGES = ["boss", "friend"]
 NODES = [1, 2, 3, 4, 5, 9, 0xFF, 0xABC]
 ODD_NODES = [
     *("<0x0>", "<1>", "<0X1>", "<0x0000000000000001>", "<0x00000000000000000>", "<0x12345678901234567>"),
@@ -57,11 +69,18 @@ ODD_NODES = [
 ]
 ODD_PREDICATES = ["nick", "uid", "set", "val", "<a b>", "<0x1>", "x.y", "x.", "n" * 64, "n" * 65]
 TEXTS = ["Ann", "Bob", "", "a\\nb", 'q\\"x', "\\u00e9", "\\U0001F600", "tab\\t", "\\u0001", "\\/", "é", "\\b\\f\\r"]
+# Texts that share terms and runs of three characters, here and there by a folding alone.
+TEXTS += ["red car", "Red bus", "car, RED!", "a red  fox", "red", "bus", "carbus", "_red_", "fox\\nred", "5½ Ⅷ"]
+TEXTS += ["5½ ⅷ", "Straße", "STRASSE", "straẞe", "ΣΑΣ", "σας", "Ⓐ", "ⓐ", "カフェ"]
+TEXTS += ["cafe\\u0301", "CAFE\u0301", "İx", "ix", "कि तक", "日本語", "本"]
+TEXTS += [" ".join(words) for words in permutations(["red", "Car", "bus", "fox", "ROT"], 2)]
 NUMBERS = ["12", "-3", "+7", "007", "1", "0", "-0", "9223372036854775807", "-9223372036854775808"]
 MOMENTS = [
     *("2020-02-29", "1993-05-19", "0000-01-01", "1993-05-19T10:20:30Z", "1993-05-19t10:20:30.50+01:30"),
-    *("1993-05-19T08:50:30.5z", "9999-12-31T23:59:59.999999999Z", "1900-03-01T00:00:00"),
+    *("1993-05-19T08:50:30.5z", "9999-12-31T23:59:59.999999999Z", "1900-03-01T00:00:00", "1993-05-01"),
+    *("1993-12-31", "1992-12-31T23:30:00-01:00", "1969-12-31T23:59:59.5Z", "1969-12-31", "2020-02-01T08:50:00Z"),
 ]
+MOMENTS += [f"1993-05-{day}T{hour}:30:00" for day in (18, 19, 20) for hour in ("08", "09", "23")]
 NO_VALUES = [
     *("9223372036854775808", "True", "2021-02-29", "1900-02-29", "2020-13-01", "2020-01-01T24:00:00"),
     *("2020-01-01T00:00:60Z", "0000-01-01T00:00:00+00:01", "9999-12-31T23:59:59-00:01", "\\q", "\\ud800", "x\\"),
@@ -74,6 +93,7 @@ KINDS = "default string int bool dateTime datetime uid".split()
 UNBUILT = ["line", "state", "roll name", "rollplan x.y", "movestart name 2", "moveoff friend"]
 DIRECTIVES = ["@index", "@reverse", "@count", "@upsert", "@index(exact)", "@index(term, trigram)", "@index(int)"]
 DIRECTIVES += ["@index(year, year)", "@index(bool,)", "@lang"]
+TOKENIZERS = {kind: [name for name, of in plain.TOKENIZERS.items() if of == kind] for kind in plain.TOKENIZERS.values()}
 BYTES = "{}()[],:.~*\"'<>@/^#\\ \n_a0!-é"
 
 
@@ -102,7 +122,7 @@ class Draw(random.Random):
             return "*"
         if self.one_in(60):
             return self.choice([self.node(deletes), self.literal(predicate), "*", "val(x)", "val", "12", "0x1"])
-        return self.node(deletes) if predicate in ("boss", "friend") else self.literal(predicate)
+        return self.node(deletes) if predicate in EDGES else self.literal(predicate)
 
     def statement(self, predicates: list[str], deletes: bool) -> str:
         predicate = self.choice(ODD_PREDICATES if self.one_in(60) else predicates)
@@ -111,14 +131,25 @@ class Draw(random.Random):
         triple = f"{self.node(deletes)} {said} {self.object(predicate, deletes)}"
         return f"{triple}{label}{self.choice([' ', '', chr(10), ' # ' + chr(10)])}."
 
-    def change(self, predicates: list[str], nodes: list[int]) -> str:
+    def triple(self, predicates: list[str], nodes: list[int], deletes: bool) -> str:
         """A statement without a fault, over these predicates and nodes."""
         predicate = self.choice(predicates)
-        if predicate in ("boss", "friend"):
+        if deletes and self.one_in(4):
+            said = "*"
+        elif predicate in EDGES:
             said = f"<{hex(self.choice(NODES))}>"
         else:
             said = f'"{self.choice(VALUES[predicate])}"'
         return f"<{hex(self.choice(nodes))}> <{predicate}> {said} ."
+
+    def changes(self, predicates: list[str], nodes: list[int]) -> str:
+        """A mutation without a fault, over these predicates and nodes."""
+        lines = [self.triple(predicates, nodes, False) for _ in range(self.choice([1, 1, 2, 3]))]
+        if not self.one_in(4):
+            return "\n".join(lines)
+        gone = [self.triple(predicates, nodes, True) for _ in range(self.choice([1, 2]))]
+        groups = [f"set {{ {' '.join(lines)} }}", f"delete {{ {' '.join(gone)} }}"]
+        return f"{{ {' '.join(self.sample(groups, self.choice([1, 2, 2])))} }}"
 
     def mutation(self) -> str:
         predicates = [self.choice(PREDICATES)] if self.one_in(3) else PREDICATES
@@ -131,10 +162,36 @@ class Draw(random.Random):
             groups.append(f"{'delete' if deletes else 'set'} {{ {' '.join(lines)} }}")
         return f"{{ {' '.join(groups)} }}"
 
+    def index(self, kind: str) -> str:
+        """An index of a kind that has one."""
+        own = TOKENIZERS[kind]
+        if kind != "string" and self.one_in(3):
+            return "@index"
+        return f"@index({', '.join(self.sample(own, self.choice(range(1, len(own) + 1))))})"
+
+    def directives(self, kind: str, most: float = 2, upserts: float = 2) -> list[str]:
+        """Directives that fit a kind, one in so many each; one in so many of the indexes is for upserts."""
+        kind = plain.KINDS[kind.strip("[]")]
+        words = [self.index(kind)] if kind in TOKENIZERS and self.one_in(most) else []
+        words += ["@upsert"] if words and self.one_in(upserts) else []
+        words += ["@reverse"] if kind == "uid" and self.one_in(most) else []
+        words += ["@count"] if self.one_in(most) else []
+        self.shuffle(words)
+        return words
+
+    def declared(self, names: list[str], most: float = 2, upserts: float = 2) -> str:
+        """Definitions of these predicates as they are, with other directives."""
+        words = {name: self.directives(TYPED[name], most, upserts) for name in names}
+        return "\n".join(" ".join([f"{name}:", TYPED[name], *words[name], "."]) for name in names)
+
     def definition(self) -> str:
         name = self.choice([*PREDICATES, *PREDICATES, "extra", "<x.y>", "uid", "n" * 64, "n" * 65])
+        if name in TYPED and self.one_in(2):
+            return self.declared([name])
         kind = self.choice(KINDS)
-        words = [self.choice(DIRECTIVES) for _ in range(self.choice([1, 1, 2, 3]))] if self.one_in(4) else []
+        words = self.directives(kind) if self.one_in(2) else []
+        if self.one_in(8):
+            words = [self.choice(DIRECTIVES) for _ in range(self.choice([1, 1, 2, 3]))]
         return " ".join([f"{name}:", f"[{kind}]" if self.one_in(2) else kind, *words, "."])
 
     def schema(self) -> str:
@@ -169,28 +226,56 @@ def frame(header: str, body: bytes) -> bytes:
     return b"%s %d\n%s\n" % (header.encode(), len(body), body)
 
 
+class Contention(NamedTuple):
+    """What sessions write at once: predicates, whether each session has a node of its own, and one directive in how
+    many is there, of indexes, edges and counts, and of upserts."""
+
+    predicates: list[str]
+    is_apart: bool = False
+    most: float = 2
+    upserts: float = 2
+
+
+def contention(draw: Draw) -> Contention:
+    """The sessions meet in a few nodes, in lists of one node whose values share tokens, by values of different nodes,
+    or by edges to the same node."""
+    way = draw.choice(["nodes", "lists", "lists", "values", "edges", "edges"])
+    if way == "lists":
+        chosen = [draw.choice(["tags", "days"]), *draw.sample(LISTS, draw.choice([0, 1]))]
+        return Contention(list(dict.fromkeys(chosen)), False, 1.2, 6)
+    if way == "values":
+        return Contention(draw.sample(INDEXED, draw.choice([1, 2])), True, 1.2, 1.2)
+    if way == "edges":
+        chosen = [draw.choice(EDGES), *draw.sample(PREDICATES, draw.choice([0, 1]))]
+        return Contention(list(dict.fromkeys(chosen)), True, 1.1)
+    return Contention(draw.sample(PREDICATES, draw.choice([1, 2, 3])))
+
+
 def contended(draw: Draw) -> Iterator[bytes]:
-    """Rounds in which many sessions write a few nodes, and then end in another order."""
-    yield frame("alter", SCHEMA.encode())
+    """Rounds in which many sessions write at once, and then end in another order."""
     sessions = list(range(1, draw.choice([4, 8, 16]) + 1))
-    predicates = draw.sample(PREDICATES, draw.choice([1, 2, 3]))
-    nodes = draw.sample(NODES, draw.choice([1, 2]))
+    predicates, is_apart, *most = contention(draw)
+    shared = draw.sample(NODES, draw.choice([1, 2]))
+    nodes = {session: [0x20 + session] if is_apart else shared for session in sessions}
+    yield frame("alter", draw.declared(PREDICATES).encode())
+    yield frame("alter", draw.declared(predicates, *most).encode())
     for _ in range(draw.choice([2, 4])):
         draw.shuffle(sessions)
         yield from (b"begin %d\n" % session for session in sessions)
         for session in sessions:
-            lines = [draw.change(predicates, nodes) for _ in range(draw.choice([1, 1, 2]))]
-            yield frame(f"mutate {session}", "\n".join(lines).encode())
+            yield frame(f"mutate {session}", draw.changes(predicates, nodes[session]).encode())
         draw.shuffle(sessions)
         for session in sessions:
             if draw.one_in(3):
-                asked = f"{{ q(func: uid({hex(draw.choice(nodes))})) {{ {draw.choice(predicates)} }} }}"
+                asked = f"{{ q(func: uid({hex(draw.choice(nodes[session]))})) {{ {draw.choice(predicates)} }} }}"
                 yield frame(f"query {session}", asked.encode())
             yield f"{'discard' if draw.one_in(12) else 'commit'} {session}\n".encode()
+        if draw.one_in(2):
+            yield frame("alter", draw.declared(draw.sample(predicates, 1), *most).encode())
 
 
 def frames(draw: Draw) -> Iterator[bytes]:
-    yield frame("alter", SCHEMA.encode())
+    yield frame("alter", draw.declared(PREDICATES).encode())
     sessions = draw.choice([[1], [1, 2], [1, 2, 16]])
     begun: set[int] = set()
     for _ in range(draw.choice([20, 60, 120])):
@@ -204,6 +289,9 @@ def frames(draw: Draw) -> Iterator[bytes]:
         elif verb == "query":
             yield frame(f"query {session}", draw.marred(draw.query()))
         elif verb == "alter":
+            if draw.one_in(2):
+                yield from (b"commit %d\n" % one for one in sorted(begun))
+                begun = set()
             yield frame("alter", draw.marred(draw.schema()))
         else:
             begun = begun | {session} if verb == "begin" else begun - {session}
@@ -232,12 +320,23 @@ def ended_with(program: Path, text: bytes) -> tuple[bytes, bytes, object]:
     return ended.stdout, ended.stderr, ended.returncode
 
 
+def kind_of(reply: bytes) -> str:
+    """The first two words of a reply, and for a conflict the kind of its key."""
+    words = reply.decode().split()
+    kind = " ".join(words[:2])
+    if kind != "error 19":
+        return kind
+    # The text of a value ends in a quotation mark, or is a number or a truth.
+    named = words[4] == "index" and re.fullmatch("0x[0-9a-f]+", words[-1])
+    return f"conflict by {words[4]}{' of a node' if named else ''}"
+
+
 def is_alike(program: Path, number: int, seen: Counter[str]) -> bool:
     """Whether the program does with a script what the plain machine does; what it doesn't is shown."""
     text = script(number)
     wanted = plain.run(text)
     wrote, said, status = ended_with(program, text)
-    seen.update(b" ".join(reply.split(maxsplit=2)[:2]).decode() for reply in wanted.replies)
+    seen.update(kind_of(reply) for reply in wanted.replies)
     end, message = 0, b""
     if wanted.fault is not None:
         end, message = 4, b"dgraph: bad frame at %d\n" % wanted.fault
@@ -255,11 +354,14 @@ def is_alike(program: Path, number: int, seen: Counter[str]) -> bool:
 
 
 def has_conflicts(seen: Counter[str]) -> bool:
-    """Whether as many replies are conflicts as have to be; it says how many are."""
+    """Whether as many replies are conflicts as have to be, by keys of each kind too; it says how many are."""
     replies = sum(count for reply, count in seen.items() if reply != "bad frame")
-    conflicts = seen["error 19"]
+    by_kind = [seen[f"conflict by {kind}"] for kind in KEYS]
+    conflicts = sum(by_kind)
     print(f"{replies} replies, of which {conflicts} are conflicts; one in {ONE_CONFLICT_IN} has to be")
-    return conflicts * ONE_CONFLICT_IN >= replies
+    told = ", ".join(f"{count} by {kind}" for kind, count in zip(KEYS, by_kind))
+    print(f"of these {told}; one reply in {ONE_OF_EACH_IN} has to be by each kind of key")
+    return conflicts * ONE_CONFLICT_IN >= replies and min(by_kind) * ONE_OF_EACH_IN >= replies
 
 
 def positive(word: str) -> int:

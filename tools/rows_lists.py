@@ -5,6 +5,7 @@
 These come from this model alone, which knows no layers, bases, runs or pages: a list is the set
 that is left of all operations up to a timestamp, a map is a dict, and what ascends is written down.
 """
+import datetime
 import json
 import sys
 
@@ -81,6 +82,54 @@ rcount age 3
 rcount friend 0
 rcount friend 18446744073709551615
 """.strip().splitlines()
+# Keys in ascending order that have values of each kind up to the ends of their types.
+SPELLED = """
+data  0
+data a 0
+data a 255
+data a 256
+data a 18446744073709551615
+index a exact text:
+index a exact text:␀
+index a exact text:␀a
+index a exact text:a
+index a exact text:a␀
+index a exact text:ab
+index a exact text:日
+index a hash text:
+index a term text:é
+index a trigram text:a␠b
+index a int int:-9223372036854775808
+index a int int:-257
+index a int int:-256
+index a int int:-1
+index a int int:0
+index a int int:255
+index a int int:256
+index a int int:9223372036854775807
+index a bool bool:false
+index a bool bool:true
+index a year time:0000-01-01T00:00:00Z
+index a year time:0000-12-31T23:59:59.999999999Z
+index a year time:1969-12-31T23:59:59.5Z
+index a year time:1970-01-01T00:00:00Z
+index a year time:1970-01-01T00:00:00.000000001Z
+index a year time:1970-01-01T00:00:00.000000256Z
+index a year time:9999-12-31T23:59:59.999999999Z
+index a month time:2024-02-29T22:30:00.12Z
+index a day time:1960-02-29T00:00:00Z
+index a hour time:0001-01-01T00:00:00Z
+reverse a 0
+reverse a 72057594037927936
+count a 1
+rcount a 1
+data a␁ 0
+data a␠ 0
+data aa 0
+data name 1
+data é 7
+data 日 7
+""".strip("\n").splitlines()
 PREDICATES = ["age", "friend", "name", "name␠of", "names", "é"]
 
 seed = 11
@@ -519,8 +568,164 @@ def many_keys():
     seed = kept
 
 
+KINDS = ["data", "index", "reverse", "count", "rcount"]
+TOKENIZERS = ["exact", "hash", "term", "trigram", "int", "bool", "year", "month", "day", "hour"]
+KINDS_OF_VALUES = ["text"] * 4 + ["int", "bool"] + ["time"] * 4
+EPOCH = datetime.date(1970, 1, 1).toordinal()
+CYCLE = 146097  # days of 400 years, after which the calendar repeats
+NO_KEY = "no key has these bytes"
+
+
+def signed(n, size=8):
+    """Numbers from the least on, so that they order as they are written."""
+    return (n + 2 ** (8 * size - 1)).to_bytes(size, "big")
+
+
+def time_bytes(text):
+    date, _, clock = text.rstrip("Z").partition("T")
+    year, month, day = map(int, date.split("-"))
+    shift = 400 if year < 1 else 0
+    days = datetime.date(year + shift, month, day).toordinal() - (CYCLE if shift else 0) - EPOCH
+    hour, minute, second = clock.split(":")
+    second, _, fraction = second.partition(".")
+    secs = ((days * 24 + int(hour)) * 60 + int(minute)) * 60 + int(second)
+    return signed(secs) + int(fraction.ljust(9, "0")).to_bytes(4, "big")
+
+
+def time_word(secs, nanos):
+    days, rest = divmod(secs, 86400)
+    at = days + EPOCH
+    shift = 400 if at < 1 else 0
+    date = datetime.date.fromordinal(at + (CYCLE if shift else 0))
+    fraction = f".{nanos:09}".rstrip("0").rstrip(".")
+    clock = f"{rest // 3600:02}:{rest // 60 % 60:02}:{rest % 60:02}{fraction}"
+    return f"time:{date.year - shift:04}-{date.month:02}-{date.day:02}T{clock}Z"
+
+
+def bytes_of_value(word):
+    kind, _, text = word.partition(":")
+    if kind == "text":
+        return plain(text).encode()
+    if kind == "int":
+        return signed(int(text))
+    return bytes([text == "true"]) if kind == "bool" else time_bytes(text)
+
+
+def bytes_of_key(key):
+    kind, pred, *rest = key.split(" ")
+    front = plain(pred).encode() + bytes([0, 1 + KINDS.index(kind)])
+    if kind != "index":
+        return front + int(rest[0]).to_bytes(8, "big")
+    return front + bytes([TOKENIZERS.index(rest[0])]) + bytes_of_value(rest[1])
+
+
+def pictured(data):
+    return "".join(chr(ord(c) + 0x2400) if ord(c) <= 0x20 else c for c in data.decode())
+
+
+def value_with(kind, data):
+    """The word of the value of a kind that has the bytes; a ValueError where none has."""
+    if kind == "text":
+        return "text:" + pictured(data)
+    if kind == "bool":
+        return "bool:" + ["false", "true"][[b"\0", b"\1"].index(data)]
+    if len(data) != (8 if kind == "int" else 12):
+        raise ValueError
+    number = int.from_bytes(data[:8], "big") - 2**63
+    if kind == "int":
+        return f"int:{number}"
+    nanos = int.from_bytes(data[8:], "big")
+    first, last = (int.from_bytes(time_bytes(t)[:8], "big") - 2**63 for t in ENDS)
+    if not first <= number <= last or nanos >= 10**9:
+        raise ValueError
+    return time_word(number, nanos)
+
+
+ENDS = ("0000-01-01T00:00:00Z", "9999-12-31T23:59:59Z")
+
+
+def key_with(data):
+    """The key that has the bytes, or the fault."""
+    try:
+        at = data.index(0)
+        pred, kind, rest = pictured(data[:at]), data[at + 1], data[at + 2 :]
+        name = dict(enumerate(KINDS, 1))[kind]
+        if name == "index":
+            value = value_with(KINDS_OF_VALUES[rest[0]], rest[1:])
+            return f"index {pred} {TOKENIZERS[rest[0]]} {value}"
+        if len(rest) != 8:
+            return NO_KEY
+        return f"{name} {pred} {int.from_bytes(rest, 'big')}"
+    except (ValueError, LookupError):
+        return NO_KEY
+
+
+def read_row(data, answer):
+    row(f"keybytes read {data.hex() or 'none'}", answer)
+
+
+def no_keys():
+    """Bytes that no key has, beside some that one has: a piece is added, missing or out of its range."""
+    front, number = b"a\0", bytes(8)
+    yield from (b"", b"a", b"aa", front, front + b"\1", b"\xff\0\1" + number, b"\xed\xa0\x80\0\1" + number)
+    yield from (front + bytes([k]) + number for k in (0, 6, 255))
+    yield from (front + bytes([k]) + n for k in (1, 3, 4, 5) for n in (number[1:], number + b"\0"))
+    index = front + b"\2"
+    yield from (index, index + b"\x0a", index + b"\x0a" + number, index + b"\xff")
+    yield from (index + bytes([t]) + b"\xc3" for t in range(4))
+    yield from (index + bytes([t]) for t in range(4, 10))
+    yield from (index + b"\4" + number[1:], index + b"\4" + number + b"\0")
+    yield from (index + b"\5" + end for end in (b"\2", b"\xff", b"\0\0"))
+    for t in range(6, 10):
+        time = index + bytes([t])
+        yield from (time + number, time + number + bytes(3), time + signed(0) + bytes(5))
+        yield time + signed(0) + (10**9).to_bytes(4, "big")
+        yield time + signed(0) + b"\xff\xff\xff\xff"
+        first, last = (int.from_bytes(time_bytes(end)[:8], "big") - 2**63 for end in ENDS)
+        yield from (time + signed(secs) + bytes(4) for secs in (first - 1, last + 1, -(2**63)))
+
+
+def changed_bytes(data):
+    """The bytes with one put in, taken out or changed."""
+    at = below(len(data) + 1)
+    new = bytes([(0, 1, 2, 128, 195, 255, below(256))[below(7)]])
+    return data[:at] + new[: below(2)] + data[at + below(2) :]
+
+
+def bytes_of_keys():
+    head("The bytes of keys. By Python's own bytes of texts, numbers and dates.")
+    for key in KEYS + SPELLED:
+        data = bytes_of_key(key)
+        if "  " not in key:
+            row(f"keybytes of {key}", data.hex())
+            row(f"keybytes back {key}", key)
+            row(f"keybytes plain {key}", "true")
+        read_row(data, key)
+    for keys_in_order in (KEYS, SPELLED[1:]):
+        for a, b in pairs(len(keys_in_order)):
+            row(f"keybytes order {keys_in_order[a]} | {keys_in_order[b]}", order(a, b))
+    head("Keys that have no bytes: a zero byte in the predicate, or a value that isn't of the tokenizer's kind.")
+    values = ["text:1", "int:1", "bool:true", "time:1970-01-01T00:00:00Z"]
+    others = [(t, v) for t, k in zip(TOKENIZERS, KINDS_OF_VALUES) for v in values if v[: len(k)] != k]
+    for key in ["data ␀ 1", "count a␀b 1", "index ␀ term text:a"] + [f"index a {t} {v}" for t, v in others]:
+        row(f"keybytes plain {key}", "false")
+        row(f"keybytes of {key}", "?")
+        row(f"keybytes back {key}", "?")
+    row("keybytes order data a 1 | data a␀ 1", "?")
+    row("keybytes read 0", "?")
+    row("keybytes read 0g", "?")
+    row("keybytes read", "?")
+    head("Bytes that no key has. By hand, and answered by a reader of Python's own.")
+    for data in no_keys():
+        assert key_with(data) == NO_KEY, data
+        read_row(data, NO_KEY)
+    for _ in range(150):
+        data = changed_bytes(bytes_of_key((KEYS + SPELLED)[below(len(KEYS + SPELLED))]))
+        read_row(data, key_with(data))
+
+
 PAGED = (map_pages, emptied_maps, many_keys)
-for make in PAGED + (bits, bases, operations, maps, lists, stores, keys, conflicts, large_maps):
+for make in PAGED + (bits, bases, operations, maps, lists, stores, keys, conflicts, large_maps, bytes_of_keys):
     make()
 for text, answer in rows:
     if sys.argv[1:] == ["stdin"]:

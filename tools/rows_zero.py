@@ -234,8 +234,8 @@ def zero(rnd, count):
     def lease():
         top, nodes = rnd.randint(0, z.uid + 3), rnd.randint(0, 5)
         first = max(z.uid, top + 1)
+        row("node", z.uid)
         z.uid = first + nodes
-        row(f"leasable {top} {nodes}", first)
         row(f"lease 1 {top} {nodes}", first)
         row("node", z.uid)
 

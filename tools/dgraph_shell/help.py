@@ -2,7 +2,7 @@
 
 from __future__ import annotations
 
-from .meanings import BUILT_FORMS, FORMS
+from .meanings import BUILT_FORMS, DIRECTIVES, FORMS
 from .scripts import INDENT
 from .verbs import BUILT, UNBUILT, Verb
 
@@ -38,7 +38,11 @@ PURPOSES = {
     "discard": "forgets them, and ends it",
 }
 EXAMPLES = {
-    "alter": ["name: string .", "age: int .", "friend: [uid] .     # a list: any number of them"],
+    "alter": [
+        "name: string @index(exact, term) .",
+        "age: int .",
+        "friend: [uid] @reverse @count .     # a list: any number of them",
+    ],
     "mutate": [
         '<0x1> <name> "Ann" .',
         '_:bob <name> "Bob" .        # a new node; the reply has its number',
@@ -46,7 +50,10 @@ EXAMPLES = {
     ],
     "query": ["{ q(func: uid(0x1)) { name } }"],
 }
+# What the body of a verb consists of.
+PARTS = {"alter": "definition", "mutate": "statement"}
 MORE = {
+    "alter": [DIRECTIVES],
     "mutate": ["deletes stand in a group:", INDENT + '{ set { <0x1> <name> "Anna" . } delete { <0x1> <friend> * . } }'],
     "query": ["of a predicate of nodes nothing is shown yet"],
 }
@@ -65,7 +72,8 @@ def help_on(verb: Verb) -> list[str]:
         return [verb.usage, f"{INDENT}it is read, and answered 98: the program can't do it yet"]
     lines = [verb.usage, f"{INDENT}{PURPOSES[verb.name]}"]
     if verb.name in FORMS:
-        lines.append(f"{INDENT}{BUILT_FORMS.get(verb.name, f'a statement is {FORMS[verb.name]}')}")
+        form = f"a {PARTS[verb.name]} is {FORMS[verb.name]}" if verb.name in PARTS else BUILT_FORMS[verb.name]
+        lines.append(f"{INDENT}{form}")
         lines.append(f"{INDENT}as in")
         lines.extend(INDENT * 2 + line for line in EXAMPLES[verb.name])
     lines.extend(INDENT + line for line in MORE.get(verb.name, []))

@@ -117,17 +117,27 @@ TIPS = {
         (r"-?[0-9]", 'write a number between quotes, as `"3"`, and a node as `<0x1>`'),
     ],
 }
+# What a key is, behind its text, where it is of no object that was set or deleted.
+KEYS = {
+    "index": "a token of values of both",
+    "count": "how many objects a node has",
+    "rcount": "how many nodes point to a node",
+}
 ENDS_EARLY = "the body ends here, where it has to go on"
 
 KINDS = "string, int, bool, dateTime, uid or default"
 DEFINITION = f"`NAME: KIND .` or, for a list, `NAME: [KIND] .`, where KIND is {KINDS}"
+DIRECTIVES = (
+    "behind the kind may stand @index(..), @reverse for uid, @count, and @upsert beside an index, each once; an index "
+    "has tokenizers of its kind: exact, hash, term or trigram for string, int for int, bool for bool, year, month, day "
+    "or hour for dateTime"
+)
 STATEMENT = '`<0x1> <name> "Ann" .` (a value), `<0x1> <friend> <0x2> .` (a node) or `_:ann <name> "Ann" .` (a new node)'
 QUERY = "`{ q(func: uid(0x1)) { name } }`"
 # The body of each verb that is built and has one.
 FORMS = {"alter": DEFINITION, "mutate": STATEMENT, "query": QUERY}
 # What is built where a request is answered 98.
 BUILT_FORMS = {
-    "alter": f"built are definitions without directives (`@index` and the like): {DEFINITION}",
     "query": f"built is the form {QUERY}, with these blanks: any node by its number, any one predicate",
 }
 BUILT_VERBS = f"built are {', '.join(verb.line for verb in BUILT)}"
@@ -146,7 +156,12 @@ def what_next(refusal: Refusal, request: Request) -> str:
 def meaning_of(refusal: Refusal, request: Optional[Request]) -> Meaning:
     """The texts for a refusal, not yet filled."""
     meaning = MEANINGS.get(refusal.number, Meaning("", ""))
+    note = KEYS.get(refusal.fields.partition(" ")[2].partition(" ")[0])
+    if refusal.name == "Conflict" and note:
+        meaning = meaning._replace(says=meaning.says.replace("` too,", f"` too ({note}),"))
     spot = spot_of(refusal, request.body) if request else None
+    if refusal.name == "SchemaSyntax" and spot and "@" in spot.text:
+        meaning = meaning._replace(next=DIRECTIVES)
     if refusal.name not in TIPS or request is None or request.body is None or spot is None:
         return meaning
     front, rest = request.body[: int(refusal.fields)], request.body[int(refusal.fields) :]

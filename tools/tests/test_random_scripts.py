@@ -3,6 +3,7 @@
 from __future__ import annotations
 
 import io
+import re
 import subprocess
 import sys
 import unittest
@@ -43,12 +44,56 @@ class Reach(unittest.TestCase):
         self.assertEqual(seen, BUILT | REFUSED)
         self.assertGreater(faults, 5)
 
-    def test_one_reply_in_fifty_is_a_conflict(self) -> None:
+    def test_enough_replies_are_conflicts_by_each_kind_of_key(self) -> None:
         for first in (0, 2_000_000_000):
-            seen: Counter[bytes] = Counter()
+            seen: Counter[str] = Counter()
             for number in range(first, first + scripts.ENOUGH):
-                seen.update(reply.split()[1] for reply in plain.run(scripts.script(number)).replies)
-            self.assertGreater(seen[b"19"] * scripts.ONE_CONFLICT_IN, sum(seen.values()), first)
+                seen.update(scripts.kind_of(reply) for reply in plain.run(scripts.script(number)).replies)
+            self.assertEqual({kind[12:] for kind in seen if kind.startswith("conflict by ")}, set(scripts.KEYS))
+            with redirect_stdout(io.StringIO()):
+                self.assertTrue(scripts.has_conflicts(seen), first)
+
+    def test_the_kind_of_a_reply(self) -> None:
+        for reply, kind in {
+            b"ok alter 1 2": "ok alter",
+            b'ok query 1 2\n{"a":"error 19"}': "ok query",
+            b"error 98 Unbuilt": "error 98",
+            b"error 19 Conflict 7 data p 0x1 0x2": "conflict by data",
+            b'error 19 Conflict 7 index p term "a" 0x1': "conflict by index of a node",
+            b'error 19 Conflict 7 index p exact "a 0x1"': "conflict by index",
+            b"error 19 Conflict 7 index p int 7": "conflict by index",
+            b"error 19 Conflict 7 rcount p 0x1": "conflict by rcount",
+        }.items():
+            self.assertEqual(scripts.kind_of(reply + b"\n"), kind)
+
+    def test_each_directive_is_declared_and_changes_over_data(self) -> None:
+        declared = set()
+        changed = 0
+        for number in range(60):
+            machine = plain.PlainMachine()
+            for request in plain.run(scripts.script(number)).requests:
+                before = machine.schema
+                machine.answer(*request)
+                if machine.schema is before:
+                    continue
+                held = {name for (name, _), objects in machine.graph_at(machine.timestamp).items() if objects}
+                for name, definition in machine.schema.items():
+                    declared.update((definition.kind, tokenizer) for tokenizer in definition.tokenizers)
+                    flags = zip(("reverse", "count", "upsert"), definition[3:])
+                    declared.update((definition.is_list, flag) for flag, holds in flags if holds)
+                    changed += name in held and before[name] != definition
+        wanted = {(kind, tokenizer) for tokenizer, kind in plain.TOKENIZERS.items()}
+        wanted |= {(is_list, flag) for is_list in (False, True) for flag in ("reverse", "count", "upsert")}
+        self.assertEqual(declared, wanted)
+        self.assertGreater(changed, 10)
+
+    def test_sessions_that_share_no_node_meet(self) -> None:
+        met = 0
+        for number in range(0, 90, 3):
+            done = plain.run(scripts.script(number))
+            nodes = {node for request in done.requests for node in re.findall(rb"<(0x2[0-9a-f]|0x30)>", request.body)}
+            met += len(nodes) > 3 and any(scripts.kind_of(reply) == "conflict by index" for reply in done.replies)
+        self.assertGreater(met, 2)
 
     def test_many_sessions_write_the_same_nodes(self) -> None:
         done = plain.run(scripts.script(0))
@@ -110,15 +155,23 @@ class Compared(InFolder):
         done = self.compare("--scripts", "3", "--first", "12")
         self.assertIn("random scripts 12 to 14 (--first 12 --scripts 3)\n", done.stdout)
         self.assertRegex(done.stdout, r"\n[0-9]+ replies, of which [0-9]+ are conflicts; one in 50 has to be\n")
+        self.assertRegex(done.stdout, r"\nof these [0-9]+ by data, .*; one reply in 2000 has to be by each kind of key")
         self.assertRegex(done.stdout, r"\nrandom scripts: 3 alike, 0 different\n\Z")
         self.assertEqual(done.returncode, 0)
         self.assertRegex(self.compare("--scripts", "1").stdout, r"\Arandom scripts ([0-9]+) to \1 \(--first \1 ")
 
     def test_too_few_conflicts_fail(self) -> None:
-        for conflicts, status in ((1, 1), (2, 0)):
-            seen = Counter({"ok commit": 98, "error 19": conflicts, "bad frame": 1000})
+        enough = {f"conflict by {kind}": 10 for kind in scripts.KEYS}
+        for conflicts, replies, status in (
+            (enough, 2450, 0),
+            (enough, 2451, 1),
+            ({**enough, "conflict by data": 460}, 19_500, 0),
+            ({**enough, "conflict by data": 460}, 19_501, 1),
+            ({**enough, "conflict by rcount": 0}, 1, 1),
+        ):
+            seen = Counter({"ok commit": replies, **conflicts, "bad frame": 100_000})
             out = io.StringIO()
             with mock.patch.object(scripts, "Counter", lambda: seen), redirect_stdout(out):
                 with mock.patch.object(scripts, "is_alike", lambda *_: True):
-                    self.assertEqual(scripts.compare_all(self.folder, range(scripts.ENOUGH)), status)
+                    self.assertEqual(scripts.compare_all(self.folder, range(scripts.ENOUGH)), status, conflicts)
                     self.assertEqual(scripts.compare_all(self.folder, range(scripts.ENOUGH - 1)), 0)

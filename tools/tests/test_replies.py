@@ -75,6 +75,15 @@ class Refusals(unittest.TestCase):
         self.assertIn('`index tag term "a {0} b" 0x1`', meaning)
         self.assertIn("the commit at timestamp 7 ", meaning)
 
+    def test_what_a_key_is(self) -> None:
+        for key, note in {
+            'index slug exact "a"': "` too (a token of values of both), so",
+            "count friend 0x1": "` too (how many objects a node has), so",
+            "rcount friend 0x1": "` too (how many nodes point to a node), so",
+            "data index 0x1": "` too, so",
+        }.items():
+            self.assertIn(f"`{key}{note}", self.meaning(f"error 19 Conflict 7 {key}"))
+
     def next(self, line: str, request: Request) -> str:
         """What to do next after a refusal of that request."""
         refusal = Refusal.of(Reply(line.encode()))
@@ -95,6 +104,12 @@ class Refusals(unittest.TestCase):
         self.assertIn("from `begin 2` on", conflict)
         self.assertIn("`name: string .`", self.next("error 13 NoPredicate name", request_of("mutate", "1", body=b"")))
         self.assertIn("as in `<0x1> <name>", self.next("error 4 BadSyntax 3", request_of("mutate", "1", body=b"a")))
+
+    def test_directives_are_told_of_where_one_stands(self) -> None:
+        body = b"a: int .\nb: string @index .\n"
+        request = request_of("alter", body=body)
+        self.assertIn("exact, hash, term or trigram", self.next("error 27 SchemaSyntax 2", request))
+        self.assertIn("`NAME: KIND .`", self.next("error 27 SchemaSyntax 1", request))
 
     def test_tips_by_what_stands_at_the_spot(self) -> None:
         for body, at, part in (
@@ -130,9 +145,6 @@ class Refusals(unittest.TestCase):
     def test_forms_that_are_built_are_shown_where_one_isnt(self) -> None:
         query = self.next("error 98 Unbuilt", request_of("query", "1", body=b"{}"))
         self.assertIn("`{ q(func: uid(0x1)) { name } }`", query)
-        alter = self.next("error 98 Unbuilt", request_of("alter", body=b"a: string @index(exact) ."))
-        self.assertIn("without directives", alter)
-        self.assertIn("`NAME: KIND .`", alter)
         built = "built are alter, begin SID, mutate SID, query SID, commit SID, discard SID"
         for request in (request_of("line"), request_of("upsert", "1", body=b""), request_of("roll", "a")):
             self.assertEqual(self.next("error 98 Unbuilt", request), built)

@@ -73,7 +73,9 @@ class Shells(InFolder):
         _, shown, _ = self.serve(["help query", "\\help ALTER", "help moveoff", "help foo"], self.program())
         self.assertIn("query SID, and a body below\n", shown)
         self.assertIn("        { q(func: uid(0x1)) { name } }\n", shown)
-        self.assertIn("        friend: [uid] . ", shown)
+        self.assertIn("    a definition is `NAME: KIND .`", shown)
+        self.assertIn("        friend: [uid] @reverse @count . ", shown)
+        self.assertIn("behind the kind may stand @index(..)", shown)
         self.assertIn("moveoff PRED\n    it is read, and answered 98", shown)
         self.assertIn("expected a verb (alter, begin, mutate, query, commit, discard); found 'foo'", shown)
 

@@ -1,4 +1,4 @@
-// The memory of tiny transactions, by what the process says of itself.
+// The memory of scripts, by what the process says of itself.
 use crate::fault::Fault;
 use crate::running::replies;
 use crate::scripts::Form;
@@ -6,26 +6,28 @@ use anyhow::Result;
 use std::alloc::Global;
 use std::fs::{self, Files};
 
-// How many transactions there are.
+// How many transactions or triples there are.
 const MADE: u64 = 100_000;
 
 // How many bytes the process counts as one.
 const KILO: u64 = 1_024;
 
-// Prints by how much the memory grows for each of many tiny transactions while they are answered, and how much of that are the
+// Prints by how much the memory grows for each of many steps of a form while they are answered, and how much of that are the
 // replies, which are kept to the end.
 pub(crate) fn print_bytes(
     rt: &(impl Print + Files + Alloc<A = Global>),
     alloc: Global,
+    form: Form,
 ) -> Result<()> {
-    let mut script = Form::Tiny.lead(alloc, MADE)?;
-    script.push_str(Form::Tiny.steps(alloc, MADE)?.as_str())?;
+    let mut script = form.lead(alloc, MADE)?;
+    script.push_str(form.steps(alloc, MADE)?.as_str())?;
     let before = told(rt, "VmRSS:")?;
     let sink = replies(alloc, script)?;
     let each = told(rt, "VmHWM:")?.saturating_sub(before) / MADE;
     let written = sink.bytes().len() as u64 / MADE;
     println!(rt;
-        "{each} bytes a tiny transaction, of which {written} are its replies; {MADE} of them"
+        "{MADE} {}: {each} bytes each, of which {written} are replies",
+        form.word()
     )?;
     Ok(())
 }

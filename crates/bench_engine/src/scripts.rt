@@ -1,15 +1,19 @@
 // Scripts that have many of one step.
+use crate::indexed::{INDEXES, push_indexed};
 use anyhow::Result;
 use std::alloc::Global;
 
 // The scripts, in the order in which they are run.
-pub(crate) const FORMS: [Form; 6] = [
+pub(crate) const FORMS: [Form; 9] = [
     Form::Tiny,
     Form::Large,
     Form::Hot,
     Form::Conflicts,
     Form::Begins,
     Form::Reads,
+    Form::Indexed { changes: 1 },
+    Form::Indexed { changes: 100 },
+    Form::Indexed { changes: 10_000 },
 ];
 
 // How many sessions there are.
@@ -33,6 +37,8 @@ pub(crate) enum Form {
     Begins,
     // Queries for the name of one node after another, in one transaction.
     Reads,
+    // Triples under an exact, a term and a reverse index, in transactions of so many.
+    Indexed { changes: u64 },
 }
 
 impl Form {
@@ -45,13 +51,19 @@ impl Form {
             Form::Conflicts => "transactions in conflict",
             Form::Begins => "begins with their discards",
             Form::Reads => "reads",
+            Form::Indexed { changes: 1 } => "indexed triples, one a transaction",
+            Form::Indexed { changes: 100 } => "indexed triples, 100 a transaction",
+            Form::Indexed { .. } => "indexed triples, 10,000 a transaction",
         }
     }
 
     // What is done first, which isn't timed by itself.
     pub(crate) fn lead(self, alloc: Global, count: u64) -> Result<String> {
         let mut text = String::new(alloc);
-        push_frame(alloc, &mut text, "alter", "name: string .")?;
+        match self {
+            Form::Indexed { .. } => push_frame(alloc, &mut text, "alter", INDEXES)?,
+            _ => push_frame(alloc, &mut text, "alter", "name: string .")?,
+        }
         match self {
             Form::Hot => text.push_str("begin 2\n")?,
             Form::Reads => push_large(alloc, &mut text, count)?,
@@ -70,13 +82,14 @@ impl Form {
             Form::Conflicts => push_conflicts(alloc, &mut text, count)?,
             Form::Begins => push_begins(&mut text, count)?,
             Form::Reads => push_reads(alloc, &mut text, count)?,
+            Form::Indexed { changes } => push_indexed(alloc, &mut text, count, changes)?,
         }
         Ok(text)
     }
 }
 
 // A frame with a body.
-fn push_frame(alloc: Global, text: &mut String, words: &str, body: &str) -> Result<()> {
+pub(crate) fn push_frame(alloc: Global, text: &mut String, words: &str, body: &str) -> Result<()> {
     let length = body.len();
     let frame = format!(in alloc; "{words} {length}\n{body}\n")?;
     text.push_str(frame.as_str())?;

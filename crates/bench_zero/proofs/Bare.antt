@@ -2,7 +2,6 @@
 use Rattle.std.proofs.Common.{◌≡◌, ℕ, List, [], ◌∷◌, ◌++◌, Option, Some, None, refl, ap, subst, sym, ◌∙◌, arith}
 use Rattle.std.proofs.lemmas.Grind.{common_steps}
 use Rattle.std.specs.List.{AllByRecursion}
-use Rattle.dg_edges.specs.Deltas.{IsPlain}
 use Rattle.dg_graph.specs.declared.change.Triple.{Triple}
 use Rattle.dg_graph.specs.declared.plain.Plain.{Plain}
 use Rattle.dg_keys.specs.declared.key.Key.{Key}
@@ -68,12 +67,11 @@ altered_bare z w author newer parts b is legal =
     }
 
 -- the present schema and no triple are a mirror
-pub bare_mirror : (z : Zero) (at : Plain) → IsBare z → at.schema ≡ schema z.history → at.graph ≡ [] → IsPlain at.schema → IsMirror z at
-bare_mirror z at b schema_is graph_is plain =
+pub bare_mirror : (z : Zero) (at : Plain) → IsBare z → at.schema ≡ schema z.history → at.graph ≡ [] → IsMirror z at
+bare_mirror z at b schema_is graph_is =
     let declared = sym schema_is in
     let none = b.none ∙ sym graph_is in
     record {
       legal = b.legal;
       world_is = λ i. record { schema = declared i; graph = none i };
-      plain = plain;
     }

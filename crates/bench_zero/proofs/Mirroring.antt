@@ -28,7 +28,6 @@ still z w at author event m is legal same =
     record {
       legal = legal;
       world_is = ap world grown ∙ (world_push z.history e ∙ (same (world z.history) ∙ m.world_is));
-      plain = m.plain;
     }
 
 -- a transaction begins
@@ -62,7 +61,6 @@ committed_mirror z w at author ts offer m is legal made =
     record {
       legal = legal;
       world_is = ap world grown ∙ (world_push z.history e ∙ (ap (λ (u : World). world_after u (commit_of offer ts)) m.world_is ∙ (λ i. record { schema = at.schema; graph = led i })));
-      plain = m.plain;
     }
 
 -- its author may end it

@@ -1,6 +1,5 @@
 -- What stands beside a state of Zero.
 use Rattle.std.specs.Prelude.{◌≡◌, ℕ, true, []}
-use Rattle.dg_edges.specs.Deltas.{IsPlain}
 use Rattle.dg_graph.specs.declared.plain.Plain.{Plain}
 use Rattle.dg_zero.specs.Counters.{active, is_active_of}
 use Rattle.dg_zero.specs.Legal.{IsLegal}
@@ -11,11 +10,10 @@ use Rattle.dg_zero.specs.Worlds.{World, world, world_at}
 abbrev pub world_in : Plain → World
 world_in at = record { schema = at.schema; graph = at.graph }
 
--- the history is legal and leads to this schema and graph, and no definition has index, reverse or count
+-- the history is legal and leads to this schema and graph
 pub record IsMirror (zero : Zero) (at : Plain) : Type 0 where
   pub legal : IsLegal zero.groups zero.history
   pub world_is : world zero.history ≡ world_in at
-  pub plain : IsPlain at.schema
 
 -- a transaction of author 0 with this start is active, and this schema and graph are those there
 pub record IsOpen (zero : Zero) (start : ℕ) (at : Plain) : Type 0 where

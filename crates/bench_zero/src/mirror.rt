@@ -2,13 +2,13 @@
 ghost use Rattle.std.specs.Prelude.{◌≡◌, ◌≢◌, ◌<◌, ◌≤◌, [], IfOk, OnOk};
 ghost use Rattle.dg_graph.specs.Graphs.{after_change, after_changes};
 ghost use Rattle.dg_graph.specs.declared.plain.Plain.{Plain};
-ghost use Rattle.dg_edges.specs.Deltas.{IsPlain, AreFitting};
+ghost use Rattle.dg_edges.specs.Deltas.{AreFitting};
 ghost use Rattle.dg_graph.specs.Graphs.{IsLawful};
 ghost use Rattle.dg_zero.specs.Offers.{IsSound, IsMadeOf};
 ghost use Rattle.bench_zero.specs.Mirrors.{IsMirror, IsOpen, IsBare};
 
 use crate::fault::Fault;
-use dg_edges::{are_fitting, is_plain, offer_of};
+use dg_edges::{are_fitting, offer_of};
 use dg_graph::{Change, Graph, Plain};
 use dg_schema::{Schema, read_schema};
 use dg_values::{List, Mem, OutOfMemory, Steps};
@@ -63,9 +63,6 @@ impl Mirror {
         let mut zero = bare(alloc)?;
         alter(alloc, &mut zero, &definitions(alloc, text)?)?;
         let schema = zero.schema().copy()?;
-        if !is_plain(&schema) {
-            return Err(Fault::Refused);
-        }
         let graph = Graph::new(alloc)?;
         Ok(Mirror {
             zero,
@@ -159,7 +156,6 @@ impl Mirror {
 
 // The offer of changes that fit, over a lawful graph.
 fn offered(alloc: Global, at: &Plain, start: u64, changes: &[Change]) -> Mem<Offer>
-    requires plain { IsPlain at.now.schema }
     requires fitting { AreFitting at.now.schema changes.now }
     requires lawful { IsLawful at.now.schema at.now.graph }
     ensures start { IfOk result (λ offer. offer.start ≡ start) }
@@ -181,7 +177,6 @@ fn offered_in<L: Ledger>(
     requires name { blank.name ≡ L.name }
     requires parts { blank.parts ≡ L.parts }
     requires some { 0 < blank.parts }
-    requires plain { IsPlain at.now.schema }
     requires fitting { AreFitting at.now.schema changes.now }
     requires lawful { IsLawful at.now.schema at.now.graph }
     ensures start { IfOk result (λ offer. offer.start ≡ start) }

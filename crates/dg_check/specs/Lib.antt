@@ -12,3 +12,4 @@ pub mod Parts
 pub mod Outcomes
 pub mod Search
 pub mod Numbers
+pub mod Vars

@@ -30,6 +30,7 @@ mod unknown;
 mod users;
 mod uses;
 mod variables;
+mod vars;
 
 pub use checking::{fault_of, fault_of_upsert};
 pub use content::Content;
@@ -39,3 +40,4 @@ pub use parts::{By, Field, Filter, Func, Item, Node, Of, OrderKey, Part, Parts};
 pub use patterns::{PatternFault, Patterns, Refusal, RegexPatterns};
 pub use plan::{Blocks, Plan};
 pub use planning::{check, check_upsert};
+pub use vars::{Variable, Vars};

@@ -20,7 +20,7 @@ use Rattle.dg_delta.specs.Ops.{posting_of, op_cmp, missing, changes_between}
 abbrev pub IsBelow : Posting → List Posting → Type 0
 IsBelow o os = AllByRecursion (λ p. posting_cmp o p ≡ Less) os
 
-below_all : (o p : Posting) (ps : List Posting) → posting_cmp o p ≡ Less → IsBelow p ps → IsBelow o (p ∷ ps)
+pub below_all : (o p : Posting) (ps : List Posting) → posting_cmp o p ≡ Less → IsBelow p ps → IsBelow o (p ∷ ps)
 below_all o p ps e a = (e, all_with (λ w. posting_cmp p w ≡ Less) (λ w. posting_cmp o w ≡ Less) ps (λ w l. posting_order.trans o p w e l) a)
 
 -- ---- what a list lacks
@@ -68,25 +68,25 @@ below_missing o have want b = all_passed (λ p. posting_cmp o p ≡ Less) (λ p.
 -- ---- from the front
 
 -- a posting that only the old list has, and that is below all others
-lost_first : (o : Posting) (old new : List Posting) → IsBelow o old → IsBelow o new → changes_between (o ∷ old) new ≡ Del o ∷ changes_between old new
+pub lost_first : (o : Posting) (old new : List Posting) → IsBelow o old → IsBelow o new → changes_between (o ∷ old) new ≡ Del o ∷ changes_between old new
 lost_first o old new a b =
     (λ i. fold (with_one op_cmp) (map Del (lacks_first o new old b i)) (map Set (lacks_more o old new b i)))
     ∙ put_behind (Del o) (map Del (missing new old)) (map Set (missing old new)) (below_sets (Del o) (missing old new) (below_missing o old new b))
 
-gained_first : (o : Posting) (old new : List Posting) → IsBelow o old → IsBelow o new → changes_between old (o ∷ new) ≡ Set o ∷ changes_between old new
+pub gained_first : (o : Posting) (old new : List Posting) → IsBelow o old → IsBelow o new → changes_between old (o ∷ new) ≡ Set o ∷ changes_between old new
 gained_first o old new a b =
     (λ i. fold (with_one op_cmp) (map Del (lacks_more o new old a i)) (map Set (lacks_first o old new a i)))
     ∙ ((λ i. fold (with_one op_cmp) (put_first (Set o) (map Del (missing new old)) (below_dels (Set o) (missing new old) (below_missing o new old a)) i) (map Set (missing old new)))
     ∙ put_behind (Set o) (map Del (missing new old)) (map Set (missing old new)) (below_sets (Set o) (missing old new) (below_missing o old new b)))
 
-kept_first : (o : Posting) (old new : List Posting) → IsBelow o old → IsBelow o new → changes_between (o ∷ old) (o ∷ new) ≡ changes_between old new
+pub kept_first : (o : Posting) (old new : List Posting) → IsBelow o old → IsBelow o new → changes_between (o ∷ old) (o ∷ new) ≡ changes_between old new
 kept_first o old new a b = λ i. fold (with_one op_cmp) (map Del (has_first o new old a i)) (map Set (has_first o old new b i))
 
-all_gained : (new : List Posting) → Ascends posting_cmp new → changes_between [] new ≡ map Set new
+pub all_gained : (new : List Posting) → Ascends posting_cmp new → changes_between [] new ≡ map Set new
 all_gained [] a = refl
 all_gained (o ∷ new) a = gained_first o [] new tt a.0 ∙ λ i. Set o ∷ all_gained new a.1 i
 
-all_lost : (old : List Posting) → Ascends posting_cmp old → changes_between old [] ≡ map Del old
+pub all_lost : (old : List Posting) → Ascends posting_cmp old → changes_between old [] ≡ map Del old
 all_lost [] a = refl
 all_lost (o ∷ old) a = lost_first o old [] a.0 tt ∙ λ i. Del o ∷ all_lost old a.1 i
 

@@ -13,7 +13,7 @@ use Rattle.dg_values.proofs.OrderLaws.{posting_order}
 use Rattle.dg_sets.proofs.MadeOrders.{nat_order}
 use Rattle.dg_sets.proofs.Sets.{is_itself, at, has_more, ascends_more, ascends_passed}
 use Rattle.dg_delta.specs.Ops.{changes_between}
-use Rattle.dg_edges.proofs.OpLaws.{between_ascends, none_between}
+use Rattle.dg_edges.proofs.OpLaws.{none_between}
 use Rattle.dg_schema.specs.declared.definition.PredDef.{PredDef}
 use Rattle.dg_schema.specs.Definitions.{definition_of, is_named}
 use Rattle.dg_graph.specs.declared.change.Triple.{Triple}
@@ -29,8 +29,6 @@ use Rattle.dg_keys.specs.Keys.{key_cmp, pred_of}
 use Rattle.dg_zero.specs.Listings.{nodes, listing, listing_by}
 use Rattle.dg_keys.specs.KeyOrder.{key_order}
 use Rattle.dg_edges.specs.Deltas.{gains, data_key, data_keys, IsPlainDefinition, IsPlain}
-use Rattle.dg_edges.specs.Laws.{DeltasAgree}
-use Rattle.dg_edges.proofs.PartLaws.{are_parts, ops_at_parts}
 
 -- ---- definitions
 
@@ -61,15 +59,6 @@ listed_by schema graph p s o l = by (definition_of schema p) refl
     by : (d : Option PredDef) → definition_of schema p ≡ d → has posting_cmp (listing_by d graph (keys.Data p s)) o ≡ has_triple graph (record { s = s; p = p; o = o })
     by None e = none (has_triple graph (record { s = s; p = p; o = o })) refl e
     by (Some def) e = objects_are graph p s o
-
--- under a plain schema, keys but those of subjects list nothing
-other_by : (d : Option PredDef) (graph : List Triple) (key : Key) → ((def : PredDef) → d ≡ Some def → IsPlainDefinition def) → ((p : List ℕ) (s : ℕ) → key ≡ keys.Data p s → ⊥) → listing_by d graph key ≡ []
-other_by None graph key plain other = refl
-other_by (Some def) graph (keys.Data p s) plain other = absurd (other p s refl)
-other_by (Some def) graph (keys.Index p t) plain other = let q = plain def refl in rw q.0 refl
-other_by (Some def) graph (keys.Reverse p o) plain other = let q = plain def refl in rw q.1 refl
-other_by (Some def) graph (keys.Count p n) plain other = let q = plain def refl in rw q.2 refl
-other_by (Some def) graph (keys.RCount p n) plain other = let q = plain def refl in rw q.1 refl
 
 -- ---- what a key lists ascends
 
@@ -121,38 +110,20 @@ no_change schema p s os (c ∷ cs) h =
 pub keys_are : (cs : List Change) (key : Key) → has key_cmp (data_keys cs) key ≡ has key_cmp (map data_key cs) key
 keys_are cs key = has_more key_cmp key_order [] (map data_key cs) key
 
-pub other_same : (schema : List PredDef) (graph later : List Triple) (key : Key) → IsPlain schema → ((p : List ℕ) (s : ℕ) → key ≡ keys.Data p s → ⊥) → listing schema graph key ≡ listing schema later key
-other_same schema graph later key plain other =
-    other_by (definition_of schema (pred_of key)) graph key (λ def e. plain_found schema (pred_of key) def plain e) other
-    ∙ sym (other_by (definition_of schema (pred_of key)) later key (λ def e. plain_found schema (pred_of key) def plain e) other)
-
 data_same : (d : Option PredDef) (graph later : List Triple) (p : List ℕ) (s : ℕ) → objects graph p s ≡ objects later p s → listing_by d graph (keys.Data p s) ≡ listing_by d later (keys.Data p s)
 data_same None graph later p s e = refl
 data_same (Some def) graph later p s e = e
 
-pub keeps_list : (schema : List PredDef) (graph : List Triple) (cs : List Change) (key : Key) → IsPlain schema → Ascends triple_cmp graph → has key_cmp (data_keys cs) key ≡ false → listing schema graph key ≡ listing schema (after_changes schema graph cs) key
-keeps_list schema graph cs (keys.Data p s) plain a h =
-    data_same (definition_of schema p) graph (after_changes schema graph cs) p s (sym (objects_after_all schema graph cs p s a ∙ no_change schema p s (objects graph p s) cs (sym (keys_are cs (keys.Data p s)) ∙ h)))
-keeps_list schema graph cs (keys.Index p t) plain a h = other_same schema graph (after_changes schema graph cs) (keys.Index p t) plain (λ q s e. cc)
-keeps_list schema graph cs (keys.Reverse p t) plain a h = other_same schema graph (after_changes schema graph cs) (keys.Reverse p t) plain (λ q s e. cc)
-keeps_list schema graph cs (keys.Count p t) plain a h = other_same schema graph (after_changes schema graph cs) (keys.Count p t) plain (λ q s e. cc)
-keeps_list schema graph cs (keys.RCount p t) plain a h = other_same schema graph (after_changes schema graph cs) (keys.RCount p t) plain (λ q s e. cc)
+pub keeps_objects : (schema : List PredDef) (graph : List Triple) (cs : List Change) (p : List ℕ) (s : ℕ) → Ascends triple_cmp graph → has key_cmp (data_keys cs) (keys.Data p s) ≡ false → objects graph p s ≡ objects (after_changes schema graph cs) p s
+keeps_objects schema graph cs p s a h = sym (objects_after_all schema graph cs p s a ∙ no_change schema p s (objects graph p s) cs (sym (keys_are cs (keys.Data p s)) ∙ h))
 
--- ---- the parts are exactly the gains and losses
+pub keeps_data : (schema : List PredDef) (graph : List Triple) (cs : List Change) (p : List ℕ) (s : ℕ) → Ascends triple_cmp graph → has key_cmp (data_keys cs) (keys.Data p s) ≡ false → listing schema graph (keys.Data p s) ≡ listing schema (after_changes schema graph cs) (keys.Data p s)
+keeps_data schema graph cs p s a h = data_same (definition_of schema p) graph (after_changes schema graph cs) p s (keeps_objects schema graph cs p s a h)
+
+-- ---- a list that stays gains and loses nothing
 
 pub gains_none : (schema : List PredDef) (graph later : List Triple) (key : Key) → listing schema graph key ≡ listing schema later key → gains schema graph later key ≡ []
 gains_none schema graph later key e = (λ i. changes_between (e i) (listing schema later key)) ∙ none_between (listing schema later key)
 
 pub data_keys_ascend : (cs : List Change) → Ascends key_cmp (data_keys cs)
 data_keys_ascend cs = ascends_more key_cmp key_order [] (map data_key cs) tt
-
-pub deltas_agree : DeltasAgree
-deltas_agree schema graph cs plain fit l =
-    record {
-      parts_are = are_parts (gains schema graph (after_changes schema graph cs)) (data_keys cs) (data_keys_ascend cs) (λ key. between_ascends (listing schema graph key) (listing schema (after_changes schema graph cs) key) (listing_ascends schema graph key l.ascend));
-      exact = λ key. ops_at_parts (gains schema graph (after_changes schema graph cs)) (data_keys cs) key (data_keys_ascend cs) ∙ by key (has key_cmp (data_keys cs) key) refl;
-    }
-  where
-    by : (key : Key) (v : Bool) → has key_cmp (data_keys cs) key ≡ v → cond v (gains schema graph (after_changes schema graph cs) key) [] ≡ gains schema graph (after_changes schema graph cs) key
-    by key true e = refl
-    by key false e = sym (gains_none schema graph (after_changes schema graph cs) key (keeps_list schema graph cs key plain l.ascend e))

@@ -1,11 +1,17 @@
 -- What small mutations and changes come to, computed: changes and nodes of statements, parts, keys and predicates of changes.
-use Rattle.std.proofs.Common.{◌≡◌, [], ◌∷◌, refl, codes}
+use Rattle.std.proofs.Common.{◌≡◌, List, [], ◌∷◌, refl, codes}
 use Rattle.dg_delta.specs.declared.op.Op.TheVariants as ops
 use Rattle.dg_graph.specs.declared.change.Change.TheVariants.{Set, Del}
 use Rattle.dg_zero.specs.Examples.{text, part, friends, friend, friend_key, friend_part, plain_names, named, name_data, name_key, two_films, film_preds}
-use Rattle.dg_edges.specs.Deltas.{deltas, data_conflicts, preds_of}
+use Rattle.dg_schema.specs.declared.definition.PredDef.{PredDef}
+use Rattle.dg_graph.specs.declared.change.Triple.{Triple}
+use Rattle.dg_graph.specs.declared.change.Change.{Change}
+use Rattle.dg_graph.specs.Graphs.{after_changes}
+use Rattle.dg_keys.specs.declared.record.Part.{Part}
+use Rattle.dg_edges.specs.Deltas.{data_keys, data_conflicts, preds_of}
 use Rattle.dg_edges.specs.Expanding.{expanded, lists_read, new_names, top_uid}
 use Rattle.dg_edges.specs.Examples.{film_statements, nameless_statement}
+use Rattle.dg_edges.proofs.WholeParts.{whole_parts}
 
 -- ---- statements
 
@@ -39,6 +45,10 @@ pub nothing_to_delete : expanded [] (nameless_statement ∷ []) 2 ≡ []
 nothing_to_delete = refl
 
 -- ---- parts, keys and predicates of changes without index, reverse and count
+
+-- the parts that are made
+abbrev deltas : List PredDef → List Triple → List Change → List Part
+deltas schema graph changes = whole_parts schema (data_keys changes) graph (after_changes schema graph changes)
 
 -- one more object of a list
 pub friend_deltas : deltas (friends ∷ []) (friend 2 ∷ []) (Set (friend 3) ∷ []) ≡ friend_part 3 ∷ []

@@ -13,8 +13,17 @@ pub mod KeysStay
 pub mod KindsStay
 pub mod ExactHistories
 pub mod PlainAlters
+pub mod AlterLaws
+pub mod AlterParts
+pub mod AlteredKeys
 pub mod BetweenLaws
 pub mod AtKeys
+pub mod FilingLaws
+pub mod JoinLaws
+pub mod FiledParts
+pub mod NumberParts
+pub mod WholeParts
+pub mod OfferKeys
 pub mod ListLaws
 pub mod ReplacedLaws
 pub mod ExpandLaws

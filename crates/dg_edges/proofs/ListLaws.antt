@@ -1,5 +1,5 @@
 -- The objects of the subjects that are changed, before changes and after some.
-use Rattle.std.proofs.Common.{Result, Ok, Err, IfOk, ◌≡◌, ℕ, ◌+◌, ◌<◌, Bool, true, false, cond, List, [], ◌∷◌, ◌++◌, length, get_or, take, fold, map, refl, sym, ◌∙◌, arith, append_assoc}
+use Rattle.std.proofs.Common.{Result, Ok, Err, IfOk, ◌≡◌, ℕ, ◌+◌, ◌<◌, Bool, true, false, cond, List, [], ◌∷◌, ◌++◌, length, get_or, take, fold, map, refl, ap, sym, ◌∙◌, arith, append_assoc}
 use Rattle.std.specs.Prelude.{OnOk, sum_by}
 use Rattle.std.specs.List.{AllByRecursion}
 use Rattle.std.proofs.Math.ListN.{set}
@@ -26,10 +26,9 @@ use Rattle.dg_keys.specs.declared.record.Part.{Part}
 use Rattle.dg_keys.specs.Keys.{key_cmp}
 use Rattle.dg_keys.specs.KeyOrder.{key_order}
 use Rattle.dg_zero.specs.Listings.{listing}
-use Rattle.dg_edges.specs.Deltas.{and_part, parts_at, gains, data_key, data_keys, IsPlain, AreFitting}
+use Rattle.dg_edges.specs.Deltas.{and_part, parts_at, gains, data_key, data_keys}
 use Rattle.dg_edges.specs.Lists.{Lists, objects_at, reads_at, unchanged_at, changed_at, lists_after}
-use Rattle.dg_edges.proofs.EdgeLaws.{listed_by, other_same, gains_none, listing_ascends}
-use Rattle.dg_edges.proofs.OfferLaws.{lawful_goal}
+use Rattle.dg_edges.proofs.EdgeLaws.{listed_by, listing_ascends}
 use Rattle.dg_edges.proofs.AtKeys.{others_stay, set_at}
 
 -- ---- what holds of results
@@ -37,6 +36,10 @@ use Rattle.dg_edges.proofs.AtKeys.{others_stay, set_at}
 pub ok_with : {T E : Type 0} (r : Result T E) (P Q : T → Type 0) → ((v : T) → P v → Q v) → IfOk r P → IfOk r Q
 ok_with (Ok v) P Q f p = f v p
 ok_with (Err e) P Q f p = p
+
+pub ok_all_with : {T E : Type 0} (r : Result T E) (P Q R S : T → Type 0) → ((v : T) → P v → Q v → R v → S v) → IfOk r P → IfOk r Q → IfOk r R → IfOk r S
+ok_all_with (Ok v) P Q R S f p q w = f v p q w
+ok_all_with (Err e) P Q R S f p q w = p
 
 pub on_ok_with : {T E : Type 0} (r : Result T E) (P Q : Type 0) → (P → Q) → OnOk r P → OnOk r Q
 on_ok_with (Ok v) P Q f p = f p
@@ -112,25 +115,24 @@ data_listing : (schema : List PredDef) (graph : List Triple) (p : List ℕ) (s :
 data_listing schema graph p s l =
     sym (one_list posting_cmp posting_order (listing schema graph (keys.Data p s)) (objects graph p s) (listing_ascends schema graph (keys.Data p s) l.ascend) (objects_ascend graph p s l.ascend) (λ o. listed_by schema graph p s o l ∙ sym (objects_are graph p s o)))
 
--- other keys have none
-gains_other : (schema : List PredDef) (graph : List Triple) (cs : List Change) (k : Key) → IsPlain schema → ((c : Change) (m : Lists) → changed_at schema c k m ≡ m) → ((p : List ℕ) (s : ℕ) → k ≡ keys.Data p s → ⊥) → objects_at graph k ≡ [] → changes_between (lists_after schema graph cs k).before (lists_after schema graph cs k).after ≡ gains schema graph (after_changes schema graph cs) k
-gains_other schema graph cs k plain still other none =
-    let whole = none_from schema k cs (unchanged_at graph k) still in
-    (λ i. changes_between (whole i).before (whole i).after)
-    ∙ ((λ i. changes_between (none i) (none i))
-    ∙ sym (gains_none schema graph (after_changes schema graph cs) k (other_same schema graph (after_changes schema graph cs) k plain other)))
+-- so what its objects gain and lose its list does
+pub data_gains : (schema : List PredDef) (g h : List Triple) (p : List ℕ) (s : ℕ) → IsLawful schema g → IsLawful schema h → changes_between (objects g p s) (objects h p s) ≡ gains schema g h (keys.Data p s)
+data_gains schema g h p s l m = λ i. changes_between (data_listing schema g p s l i) (data_listing schema h p s m i)
 
--- what the lists gain and lose
-pub gains_are : (schema : List PredDef) (graph : List Triple) (cs : List Change) → IsPlain schema → AreFitting schema cs → IsLawful schema graph → (k : Key) → changes_between (lists_after schema graph cs k).before (lists_after schema graph cs k).after ≡ gains schema graph (after_changes schema graph cs) k
-gains_are schema graph cs plain fit l (keys.Data p s) =
-    let whole = after_from schema p s cs (unchanged_at graph (keys.Data p s)) in
-    (λ i. changes_between (whole i).before (whole i).after)
-    ∙ ((λ i. changes_between (objects graph p s) (sym (objects_after_all schema graph cs p s l.ascend) i))
-    ∙ λ i. changes_between (data_listing schema graph p s l i) (data_listing schema (after_changes schema graph cs) p s (lawful_goal schema graph cs fit l) i))
-gains_are schema graph cs plain fit l (keys.Index p t) = gains_other schema graph cs (keys.Index p t) plain (λ c m. refl) (λ q s e. cc) refl
-gains_are schema graph cs plain fit l (keys.Reverse p o) = gains_other schema graph cs (keys.Reverse p o) plain (λ c m. refl) (λ q s e. cc) refl
-gains_are schema graph cs plain fit l (keys.Count p n) = gains_other schema graph cs (keys.Count p n) plain (λ c m. refl) (λ q s e. cc) refl
-gains_are schema graph cs plain fit l (keys.RCount p n) = gains_other schema graph cs (keys.RCount p n) plain (λ c m. refl) (λ q s e. cc) refl
+-- the objects before changes and after them are those of the two graphs
+pub before_are : (schema : List PredDef) (graph : List Triple) (cs : List Change) (k : Key) → (lists_after schema graph cs k).before ≡ objects_at graph k
+before_are schema graph cs (keys.Data p s) = ap (λ (l : Lists). l.before) (after_from schema p s cs (unchanged_at graph (keys.Data p s)))
+before_are schema graph cs (keys.Index p t) = ap (λ (l : Lists). l.before) (none_from schema (keys.Index p t) cs (unchanged_at graph (keys.Index p t)) (λ c m. refl))
+before_are schema graph cs (keys.Reverse p o) = ap (λ (l : Lists). l.before) (none_from schema (keys.Reverse p o) cs (unchanged_at graph (keys.Reverse p o)) (λ c m. refl))
+before_are schema graph cs (keys.Count p n) = ap (λ (l : Lists). l.before) (none_from schema (keys.Count p n) cs (unchanged_at graph (keys.Count p n)) (λ c m. refl))
+before_are schema graph cs (keys.RCount p n) = ap (λ (l : Lists). l.before) (none_from schema (keys.RCount p n) cs (unchanged_at graph (keys.RCount p n)) (λ c m. refl))
+
+pub after_are : (schema : List PredDef) (graph : List Triple) (cs : List Change) (k : Key) → Ascends triple_cmp graph → (lists_after schema graph cs k).after ≡ objects_at (after_changes schema graph cs) k
+after_are schema graph cs (keys.Data p s) a = ap (λ (l : Lists). l.after) (after_from schema p s cs (unchanged_at graph (keys.Data p s))) ∙ sym (objects_after_all schema graph cs p s a)
+after_are schema graph cs (keys.Index p t) a = ap (λ (l : Lists). l.after) (none_from schema (keys.Index p t) cs (unchanged_at graph (keys.Index p t)) (λ c m. refl))
+after_are schema graph cs (keys.Reverse p o) a = ap (λ (l : Lists). l.after) (none_from schema (keys.Reverse p o) cs (unchanged_at graph (keys.Reverse p o)) (λ c m. refl))
+after_are schema graph cs (keys.Count p n) a = ap (λ (l : Lists). l.after) (none_from schema (keys.Count p n) cs (unchanged_at graph (keys.Count p n)) (λ c m. refl))
+after_are schema graph cs (keys.RCount p n) a = ap (λ (l : Lists). l.after) (none_from schema (keys.RCount p n) cs (unchanged_at graph (keys.RCount p n)) (λ c m. refl))
 
 -- the objects of a key ascend
 pub objects_at_ascend : (graph : List Triple) (k : Key) → Ascends triple_cmp graph → Ascends posting_cmp (objects_at graph k)

@@ -1,25 +1,24 @@
 -- Whether a key lists a posting depends on the triples of one conflict key.
-use Rattle.std.proofs.Common.{◌≡◌, ℕ, nat_le, Bool, true, false, cond, List, [], ◌∷◌, Option, Some, None, length, map, filter, refl, subst, sym, ◌∙◌}
+use Rattle.std.proofs.Common.{◌≡◌, ℕ, nat_le, Bool, true, false, cond, List, [], ◌∷◌, Option, Some, None, length, refl, subst, sym, ◌∙◌}
 use Rattle.std.specs.Prelude.{◌==◌, ◌&&◌, ◌||◌}
-use Rattle.std.specs.List.{list_any}
-use Rattle.std.proofs.lemmas.Bool.{eqb-true, eq-eqb}
-use Rattle.std.specs.declared.cmp.Ordering.{Ordering}
 use Rattle.std.specs.Ordering.{is_eq, nat_cmp}
 use Rattle.dg_values.specs.Ascending.{Ascends, has}
-use Rattle.dg_values.specs.Order.{IsOrder, posting_cmp}
+use Rattle.dg_values.specs.Order.{posting_cmp}
 use Rattle.dg_values.specs.declared.value.Value.{Value}
 use Rattle.dg_values.specs.declared.value.Posting.{Posting}
 use Rattle.dg_values.specs.declared.value.Posting.TheVariants.{Uid, Val}
 use Rattle.dg_values.proofs.OrderLaws.{posting_order}
 use Rattle.dg_sets.proofs.MadeOrders.{nat_order}
-use Rattle.dg_sets.proofs.Sets.{is_one, is_itself, one_list, has_more, has_passed, any_at}
+use Rattle.dg_sets.proofs.Sets.{one_list}
 use Rattle.dg_schema.specs.declared.definition.PredDef.{PredDef}
 use Rattle.dg_schema.specs.Definitions.{definition_of}
 use Rattle.dg_tokens.specs.declared.tokens.IndexToken.{IndexToken}
 use Rattle.dg_graph.specs.declared.change.Triple.{Triple}
-use Rattle.dg_graph.specs.Graphs.{triple_cmp, is_of, is_of_subject, objects}
+use Rattle.dg_graph.specs.Graphs.{triple_cmp, objects}
 use Rattle.dg_graph.specs.Changes.{has_triple}
-use Rattle.dg_graph.specs.Lookups.{has_token, has_tokenizer, subjects_where, subjects_of, all_objects, with_objects, with_subjects, is_node}
+use Rattle.dg_graph.specs.Lookups.{has_token, has_tokenizer, subjects_where, subjects_of, with_objects, with_subjects}
+use Rattle.dg_graph.proofs.Passing.{any_same}
+use Rattle.dg_graph.proofs.LookUpLaws.{where_are, with_objects_are, with_subjects_are}
 use Rattle.dg_graph.proofs.ObjectLaws.{objects_are, objects_ascend, subjects_are, subjects_ascend}
 use Rattle.dg_keys.specs.declared.key.Key.{Key}
 use Rattle.dg_keys.specs.declared.key.Key.TheVariants as keys
@@ -31,102 +30,19 @@ use Rattle.dg_edges.specs.Regions.{AgreeIn, listing_conflict}
 use Rattle.dg_edges.specs.Laws.{ListsByKeys, OthersUnlisted}
 use Rattle.dg_edges.proofs.TripleKeys.{data_in, token_in, count_in, rcount_in}
 
--- ---- lists in which something passes
-
-same_when : (a b : Bool) → (a ≡ true → b ≡ true) → (b ≡ true → a ≡ true) → a ≡ b
-same_when true b f g = sym (f refl)
-same_when false true f g = g refl
-same_when false false f g = refl
-
-module _ {X : Type 0} (cmp : X → X → Ordering) (order : IsOrder cmp) (test : X → Bool) where
-  -- one that passes
-  pub record Passing (xs : List X) : Type 0 where
-    pub it : X
-    pub passes : test it ≡ true
-    pub there : has cmp xs it ≡ true
-
-  passing : (xs : List X) → list_any test xs ≡ true → Passing xs
-  passing [] e = absurd (cc)
-  passing (x ∷ xs) e = by (test x) refl e (λ k. passing xs k)
-    where
-      later : (b c : Bool) → c ≡ true → (b || c) ≡ true
-      later true c e = refl
-      later false c e = e
-
-      by : (v : Bool) → test x ≡ v → (v || list_any test xs) ≡ true → (list_any test xs ≡ true → Passing xs) → Passing (x ∷ xs)
-      by true p e rest = record { it = x; passes = p; there = rw (is_itself cmp order x) refl }
-      by false p e rest = let r = rest e in record { it = r.it; passes = r.passes; there = later (is_eq (cmp x r.it)) (has cmp xs r.it) r.there }
-
-  any_then : (xs ys : List X) → ((x : X) → test x ≡ true → has cmp xs x ≡ has cmp ys x) → list_any test xs ≡ true → list_any test ys ≡ true
-  any_then xs ys f e = let r = passing xs e in any_at cmp order test ys r.it r.passes (sym (f r.it r.passes) ∙ r.there)
-
-  -- lists that have the same of those that pass
-  any_same : (xs ys : List X) → ((x : X) → test x ≡ true → has cmp xs x ≡ has cmp ys x) → list_any test xs ≡ list_any test ys
-  any_same xs ys f = same_when (list_any test xs) (list_any test ys) (any_then xs ys f) (any_then ys xs (λ x p. sym (f x p)))
-
 -- ---- nodes as postings
 
-has_node : (ns : List ℕ) (s : ℕ) → has posting_cmp (nodes ns) (Uid s) ≡ has nat_cmp ns s
+pub has_node : (ns : List ℕ) (s : ℕ) → has posting_cmp (nodes ns) (Uid s) ≡ has nat_cmp ns s
 has_node [] s = refl
 has_node (n ∷ ns) s = λ i. is_eq (nat_cmp n s) || has_node ns s i
 
-no_value : (ns : List ℕ) (v : Value) → has posting_cmp (nodes ns) (Val v) ≡ false
+pub no_value : (ns : List ℕ) (v : Value) → has posting_cmp (nodes ns) (Val v) ≡ false
 no_value [] v = refl
 no_value (n ∷ ns) v = no_value ns v
 
 if_value : (b : Bool) (ns : List ℕ) (v : Value) → has posting_cmp (cond b (nodes ns) []) (Val v) ≡ false
 if_value true ns v = no_value ns v
 if_value false ns v = refl
-
--- ---- subjects by their objects
-
-same_number : (a b : ℕ) → is_eq (nat_cmp a b) ≡ (a == b)
-same_number a b =
-    same_when (is_eq (nat_cmp a b)) (a == b) (λ e. eq-eqb a b (is_one nat_cmp nat_order a b e))
-    (λ e. subst (λ (n : ℕ). is_eq (nat_cmp a n) ≡ true) (eqb-true a b e) (is_itself nat_cmp nat_order a))
-
--- a subject is among those that have an object that passes, where one of its objects does
-has_subject : (test : Posting → Bool) (graph : List Triple) (p : List ℕ) (s : ℕ) → has nat_cmp (subjects_where test graph p) s ≡ list_any test (objects graph p s)
-has_subject test graph p s = has_more nat_cmp nat_order [] (map (λ t. t.s) (filter (λ t. is_of p t && test t.o) graph)) s ∙ listed graph
-  where
-    listed : (g : List Triple) → has nat_cmp (map (λ t. t.s) (filter (λ t. is_of p t && test t.o) g)) s ≡ list_any test (objects g p s)
-    listed [] = refl
-    listed (t ∷ g) = by (is_of p t) (test t.o) (t.s == s) refl (same_number t.s s) (listed g)
-      where
-        by : (v w b : Bool) → test t.o ≡ w → is_eq (nat_cmp t.s s) ≡ b → has nat_cmp (map (λ t. t.s) (filter (λ t. is_of p t && test t.o) g)) s ≡ list_any test (objects g p s) → has nat_cmp (map (λ t. t.s) (cond (v && w) (t ∷ filter (λ t. is_of p t && test t.o) g) (filter (λ t. is_of p t && test t.o) g))) s ≡ list_any test (map (λ t. t.o) (cond (v && b) (t ∷ filter (is_of_subject p s) g) (filter (is_of_subject p s) g)))
-        by true true true e f rest = (λ i. f i || has nat_cmp (map (λ t. t.s) (filter (λ t. is_of p t && test t.o) g)) s) ∙ λ i. sym e i || list_any test (objects g p s)
-        by true true false e f rest = (λ i. f i || has nat_cmp (map (λ t. t.s) (filter (λ t. is_of p t && test t.o) g)) s) ∙ rest
-        by true false true e f rest = rest ∙ λ i. sym e i || list_any test (objects g p s)
-        by true false false e f rest = rest
-        by false w b e f rest = rest
-
--- ---- objects by their subjects
-
--- the subjects that point to an object, as they come
-abbrev pointing : List Triple → List ℕ → Posting → List ℕ
-pointing graph p o = map (λ (t : Triple). t.s) (filter (λ (t : Triple). is_of p t && is_eq (posting_cmp t.o o)) graph)
-
-points : (graph : List Triple) (p : List ℕ) (s : ℕ) (o : Posting) → has nat_cmp (pointing graph p o) s ≡ has_triple graph (record { s = s; p = p; o = o })
-points graph p s o = sym (has_more nat_cmp nat_order [] (pointing graph p o) s) ∙ subjects_are graph p s o
-
--- an object is one of the predicate's, where a subject points to it
-has_object : (graph : List Triple) (p : List ℕ) (o : Posting) → has posting_cmp (all_objects graph p) o ≡ list_any (λ s. true) (pointing graph p o)
-has_object graph p o = has_more posting_cmp posting_order [] (map (λ (t : Triple). t.o) (filter (is_of p) graph)) o ∙ listed graph
-  where
-    listed : (g : List Triple) → has posting_cmp (map (λ (t : Triple). t.o) (filter (is_of p) g)) o ≡ list_any (λ s. true) (pointing g p o)
-    listed [] = refl
-    listed (t ∷ g) = by (is_of p t) (is_eq (posting_cmp t.o o)) refl (listed g)
-      where
-        by : (v w : Bool) → is_eq (posting_cmp t.o o) ≡ w → has posting_cmp (map (λ (t : Triple). t.o) (filter (is_of p) g)) o ≡ list_any (λ s. true) (pointing g p o) → has posting_cmp (map (λ (t : Triple). t.o) (cond v (t ∷ filter (is_of p) g) (filter (is_of p) g))) o ≡ list_any (λ s. true) (map (λ (t : Triple). t.s) (cond (v && w) (t ∷ filter (λ (t : Triple). is_of p t && is_eq (posting_cmp t.o o)) g) (filter (λ (t : Triple). is_of p t && is_eq (posting_cmp t.o o)) g)))
-        by true true e rest = λ i. e i || has posting_cmp (map (λ (t : Triple). t.o) (filter (is_of p) g)) o
-        by true false e rest = (λ i. e i || has posting_cmp (map (λ (t : Triple). t.o) (filter (is_of p) g)) o) ∙ rest
-        by false w e rest = rest
-
--- the number of an object's subjects
-numbered : (f : List Triple) (p : List ℕ) (n : ℕ) (o : Posting) → has posting_cmp (with_subjects f p n) o ≡ ((is_node o && (length (subjects_of f p o) == n)) && list_any (λ s. true) (pointing f p o))
-numbered f p n o =
-    has_passed posting_cmp posting_order (λ (object : Posting). is_node object && (length (subjects_of f p object) == n)) (all_objects f p) o
-    ∙ λ i. (is_node o && (length (subjects_of f p o) == n)) && has_object f p o i
 
 -- ---- two graphs that have the same triples of a key
 
@@ -158,8 +74,8 @@ module _ (schema : List PredDef) (g h : List Triple) where
 
       by : (v : Bool) → has_tokenizer def t.tokenizer ≡ v → has posting_cmp (cond v (nodes (subjects_where (has_token t) g p)) []) (Uid s) ≡ has posting_cmp (cond v (nodes (subjects_where (has_token t) h p)) []) (Uid s)
       by true indexed =
-          has_node (subjects_where (has_token t) g p) s ∙ (has_subject (has_token t) g p s ∙ (any_same posting_cmp posting_order (has_token t) (objects g p s) (objects h p s) (object indexed)
-          ∙ sym (has_node (subjects_where (has_token t) h p) s ∙ has_subject (has_token t) h p s)))
+          has_node (subjects_where (has_token t) g p) s ∙ (where_are (has_token t) g p s ∙ (any_same posting_cmp posting_order (has_token t) (objects g p s) (objects h p s) (object indexed)
+          ∙ sym (has_node (subjects_where (has_token t) h p) s ∙ where_are (has_token t) h p s)))
       by false indexed = refl
 
   count_same : (p : List ℕ) (n s : ℕ) (d : Option PredDef) → definition_of schema p ≡ d → Ascends triple_cmp g → Ascends triple_cmp h → AgreeIn schema (conflicts.Count p s) g h → has posting_cmp (listing_by d g (keys.Count p n)) (Uid s) ≡ has posting_cmp (listing_by d h (keys.Count p n)) (Uid s)
@@ -171,13 +87,11 @@ module _ (schema : List PredDef) (g h : List Triple) where
           one_list posting_cmp posting_order (objects g p s) (objects h p s) (objects_ascend g p s a) (objects_ascend h p s b)
           (λ o. objects_are g p s o ∙ (agree (record { s = s; p = p; o = o }) (count_in schema (record { s = s; p = p; o = o }) def e counted) ∙ sym (objects_are h p s o)))
 
-      counts : (f : List Triple) → has posting_cmp (nodes (with_objects f p n)) (Uid s) ≡ ((length (objects f p s) == n) && list_any (λ o. true) (objects f p s))
-      counts f =
-          has_node (with_objects f p n) s ∙ (has_passed nat_cmp nat_order (λ (m : ℕ). length (objects f p m) == n) (subjects_where (λ o. true) f p) s
-          ∙ λ i. (length (objects f p s) == n) && has_subject (λ o. true) f p s i)
+      counts : (f : List Triple) → has posting_cmp (nodes (with_objects f p n)) (Uid s) ≡ ((length (objects f p s) == n) && nat_le 1 n)
+      counts f = has_node (with_objects f p n) s ∙ with_objects_are f p n s
 
       by : (v w : Bool) → def.count ≡ v → has posting_cmp (cond (v && w) (nodes (with_objects g p n)) []) (Uid s) ≡ has posting_cmp (cond (v && w) (nodes (with_objects h p n)) []) (Uid s)
-      by true true counted = counts g ∙ ((λ i. (length (same counted i) == n) && list_any (λ o. true) (same counted i)) ∙ sym (counts h))
+      by true true counted = counts g ∙ ((λ i. (length (same counted i) == n) && nat_le 1 n) ∙ sym (counts h))
       by true false counted = refl
       by false w counted = refl
 
@@ -193,14 +107,9 @@ module _ (schema : List PredDef) (g h : List Triple) where
           one_list nat_cmp nat_order (subjects_of g p (Uid o)) (subjects_of h p (Uid o)) (subjects_ascend g p (Uid o)) (subjects_ascend h p (Uid o))
           (λ s. subjects_are g p s (Uid o) ∙ (each reversed counted s ∙ sym (subjects_are h p s (Uid o))))
 
-      some : def.reverse ≡ true → def.count ≡ true → list_any (λ s. true) (pointing g p (Uid o)) ≡ list_any (λ s. true) (pointing h p (Uid o))
-      some reversed counted =
-          any_same nat_cmp nat_order (λ s. true) (pointing g p (Uid o)) (pointing h p (Uid o))
-          (λ s f. points g p s (Uid o) ∙ (each reversed counted s ∙ sym (points h p s (Uid o))))
-
       by : (u v w : Bool) → def.reverse ≡ u → def.count ≡ v → has posting_cmp (cond (u && (v && w)) (with_subjects g p n) []) (Uid o) ≡ has posting_cmp (cond (u && (v && w)) (with_subjects h p n) []) (Uid o)
       by true true true reversed counted =
-          numbered g p n (Uid o) ∙ ((λ i. (length (subjects reversed counted i) == n) && some reversed counted i) ∙ sym (numbered h p n (Uid o)))
+          with_subjects_are g p n (Uid o) ∙ ((λ i. (length (subjects reversed counted i) == n) && nat_le 1 n) ∙ sym (with_subjects_are h p n (Uid o)))
       by true true false reversed counted = refl
       by true false w reversed counted = refl
       by false v w reversed counted = refl
@@ -234,7 +143,7 @@ rcount_none g p n v None = refl
 rcount_none g p n v (Some def) = by (def.reverse && (def.count && nat_le 1 n))
   where
     by : (w : Bool) → has posting_cmp (cond w (with_subjects g p n) []) (Val v) ≡ false
-    by true = numbered g p n (Val v)
+    by true = with_subjects_are g p n (Val v)
     by false = refl
 
 -- a posting on which no key depends isn't listed

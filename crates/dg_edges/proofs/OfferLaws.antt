@@ -1,6 +1,6 @@
 -- An offer of the parts and keys of changes is sound, and holds at a later graph.
 use Rattle.std.proofs.Common.{◌≡◌, ◌≢◌, ℕ, Bool, true, false, cond, not, List, [], ◌∷◌, ◌++◌, Option, Some, None, map, flat_map, refl, ap, subst, sym, ◌∙◌}
-use Rattle.std.specs.Prelude.{◌||◌}
+use Rattle.std.specs.Prelude.{◌||◌, filter}
 use Rattle.std.specs.List.{AllByRecursion}
 use Rattle.std.proofs.lemmas.List.{map-append}
 use Rattle.std.proofs.lemmas.Bool.{both_ways}
@@ -9,8 +9,9 @@ use Rattle.dg_values.specs.Order.{text_cmp, posting_cmp}
 use Rattle.dg_values.specs.Ascending.{has, ascending}
 use Rattle.dg_values.specs.declared.kind.Tokenizer.{Tokenizer}
 use Rattle.dg_values.specs.declared.value.Posting.{Posting}
+use Rattle.dg_values.proofs.OrderLaws.{posting_order}
 use Rattle.dg_sets.proofs.MadeOrders.{text_order}
-use Rattle.dg_sets.proofs.Sets.{is_one, is_itself, at, from_each, has_more, ascends_more, has_joined, all_with}
+use Rattle.dg_sets.proofs.Sets.{is_one, is_itself, at, has_more, has_joined, all_with}
 use Rattle.dg_delta.specs.declared.op.Op.{Op}
 use Rattle.dg_delta.specs.declared.op.Op.TheVariants as ops
 use Rattle.dg_delta.specs.Ops.{posting_of}
@@ -30,16 +31,17 @@ use Rattle.dg_keys.specs.declared.key.Key.{Key}
 use Rattle.dg_keys.specs.declared.key.Key.TheVariants as keys
 use Rattle.dg_keys.specs.declared.conflict.ConflictKey.{ConflictKey}
 use Rattle.dg_keys.specs.declared.conflict.ConflictKey.TheVariants as conflicts
-use Rattle.dg_keys.specs.Keys.{key_cmp, pred_of}
+use Rattle.dg_keys.specs.declared.record.Part.{Part}
+use Rattle.dg_keys.specs.Keys.{key_cmp, pred_of, ops_at}
 use Rattle.dg_zero.specs.Worlds.{change_of, changes_at, changes_of}
 use Rattle.dg_keys.specs.Conflicts.{conflict_cmp}
-use Rattle.dg_zero.specs.Listings.{listing, AreGainsAndLosses, triple_of, touched, keys_of_object, keys_of_token, keys_of_change, keys_of_changes, conflict_keys}
+use Rattle.dg_zero.specs.Listings.{listing, AreGainsAndLosses, triple_of, touched, keys_of_object, keys_of_token, keys_of_change, keys_of_changes}
 use Rattle.dg_keys.specs.KeyOrder.{key_order, conflict_order}
-use Rattle.dg_edges.specs.Deltas.{parts_at, gains, data_key, data_keys, deltas, data_conflict, data_conflicts, preds_of, IsPlainDefinition, IsPlain, AreFitting}
-use Rattle.dg_edges.specs.Laws.{DeltasLead, KeysAre, OffersAreSound, OffersAreMade, ChangesDoAsParts, Done, IsKeyed, HasNone, after_done, OthersLeave, CommitsDoAsChanges}
-use Rattle.dg_edges.proofs.PartLaws.{all_parts, all_changes, changes_joined}
+use Rattle.dg_edges.specs.Deltas.{gains, data_key, data_conflict, data_conflicts, preds_of, IsPlainDefinition, IsPlain, AreFitting}
+use Rattle.dg_edges.specs.Laws.{DeltasLead, KeysAre, ChangesDoAsParts, Done, IsKeyed, HasNone, after_done, OthersLeave, CommitsDoAsChanges}
+use Rattle.dg_edges.proofs.PartLaws.{all_joined, own_ops}
 use Rattle.dg_edges.proofs.AgreeLaws.{Leads, lead_there, all_apart}
-use Rattle.dg_edges.proofs.EdgeLaws.{plain_found, listed_by, keeps_list, keys_are, deltas_agree}
+use Rattle.dg_edges.proofs.EdgeLaws.{plain_found, listed_by}
 
 -- ---- the parts as changes: each leads to the new graph, and none leaves its triple as it was
 
@@ -69,9 +71,9 @@ key_leads schema graph goal (keys.Reverse p t) l m = tt
 key_leads schema graph goal (keys.Count p t) l m = tt
 key_leads schema graph goal (keys.RCount p t) l m = tt
 
-keys_lead : (schema : List PredDef) (graph goal : List Triple) (ks : List Key) → IsLawful schema graph → IsLawful schema goal → AllByRecursion (λ k. AllByRecursion (IsOfDifference graph goal) (changes_at k (gains schema graph goal k))) ks
-keys_lead schema graph goal [] l m = tt
-keys_lead schema graph goal (k ∷ ks) l m = (key_leads schema graph goal k l m, keys_lead schema graph goal ks l m)
+parts_differ : (graph goal : List Triple) (parts : List Part) → AllByRecursion (λ p. AllByRecursion (IsOfDifference graph goal) (changes_at p.key p.ops)) parts → AllByRecursion (IsOfDifference graph goal) (changes_of parts)
+parts_differ graph goal [] a = tt
+parts_differ graph goal (part ∷ parts) a = all_joined (IsOfDifference graph goal) (changes_at part.key part.ops) (changes_of parts) a.0 (parts_differ graph goal parts a.1)
 
 -- the graph after changes is lawful
 pub all_fit : (schema : List PredDef) (cs : List Change) → AreFitting schema cs → AllFit schema cs
@@ -82,9 +84,13 @@ all_fit schema (changes.Del t ∷ cs) f = (tt, all_fit schema cs f.1)
 pub lawful_goal : (schema : List PredDef) (graph : List Triple) (cs : List Change) → AreFitting schema cs → IsLawful schema graph → IsLawful schema (after_changes schema graph cs)
 lawful_goal schema graph cs f l = stays_lawful schema graph cs (all_fit schema cs f) l
 
-pub deltas_differ : (schema : List PredDef) (graph : List Triple) (cs : List Change) → AreFitting schema cs → IsLawful schema graph → AllByRecursion (IsOfDifference graph (after_changes schema graph cs)) (changes_of (deltas schema graph cs))
-deltas_differ schema graph cs f l =
-    all_changes (IsOfDifference graph (after_changes schema graph cs)) (gains schema graph (after_changes schema graph cs)) (data_keys cs) (keys_lead schema graph (after_changes schema graph cs) (data_keys cs) l (lawful_goal schema graph cs f l))
+-- parts that are gains and losses are of triples that differ
+pub gains_differ : (schema : List PredDef) (graph goal : List Triple) (parts : List Part) → IsLawful schema graph → IsLawful schema goal → AreGainsAndLosses schema graph schema goal parts → AllByRecursion (IsOfDifference graph goal) (changes_of parts)
+gains_differ schema graph goal parts l m e =
+    parts_differ graph goal parts
+    (all_with (λ p. ops_at parts p.key ≡ p.ops) (λ p. AllByRecursion (IsOfDifference graph goal) (changes_at p.key p.ops)) parts
+    (λ p own. subst (λ (os : List Op). AllByRecursion (IsOfDifference graph goal) (changes_at p.key os)) (sym (e.exact p.key) ∙ own) (key_leads schema graph goal p.key l m))
+    (own_ops parts e.parts_are.ascend))
 
 -- ---- each triple that differs has a change
 
@@ -96,48 +102,47 @@ ops_cover : (p : List ℕ) (s : ℕ) (u : Triple) (os : List Op) → p ≡ u.p �
 ops_cover p s u [] e f = refl
 ops_cover p s u (op ∷ os) e f = λ i. op_covers p s u op e f i || ops_cover p s u os e f i
 
-keys_cover : (f : Key → List Op) (ks : List Key) (u : Triple) → has posting_cmp (map posting_of (f (keys.Data u.p u.s))) u.o ≡ true → has key_cmp ks (keys.Data u.p u.s) ≡ true → has triple_cmp (map changed (changes_of (parts_at f ks))) u ≡ true
-keys_cover f [] u c h = absurd (cc)
-keys_cover f (k ∷ ks) u c h =
-    (ap (λ (cs : List Change). has triple_cmp (map changed cs) u) (changes_joined f k ks)
-    ∙ (ap (λ (ts : List Triple). has triple_cmp ts u) (map-append changed (changes_at k (f k)) (changes_of (parts_at f ks)))
-    ∙ has_joined triple_cmp triple_order (map changed (changes_at k (f k))) (map changed (changes_of (parts_at f ks))) u))
-    ∙ by (is_eq (key_cmp k (keys.Data u.p u.s))) refl h (λ m. keys_cover f ks u c m)
+parts_cover : (parts : List Part) (u : Triple) → has posting_cmp (map posting_of (ops_at parts (keys.Data u.p u.s))) u.o ≡ true → has triple_cmp (map changed (changes_of parts)) u ≡ true
+parts_cover [] u c = absurd (both_ways false refl c)
+parts_cover (part ∷ parts) u c =
+    (ap (λ (ts : List Triple). has triple_cmp ts u) (map-append changed (changes_at part.key part.ops) (changes_of parts))
+    ∙ has_joined triple_cmp triple_order (map changed (changes_at part.key part.ops)) (map changed (changes_of parts)) u)
+    ∙ by (is_eq (key_cmp part.key (keys.Data u.p u.s))) refl c (λ k. parts_cover parts u k)
   where
-    first : (b c : Bool) → b ≡ true → (b || c) ≡ true
-    first true c e = refl
-    first false c e = absurd (cc)
-
     later : (b c : Bool) → c ≡ true → (b || c) ≡ true
     later true c e = refl
     later false c e = e
 
-    by : (v : Bool) → is_eq (key_cmp k (keys.Data u.p u.s)) ≡ v → (v || has key_cmp ks (keys.Data u.p u.s)) ≡ true → (has key_cmp ks (keys.Data u.p u.s) ≡ true → has triple_cmp (map changed (changes_of (parts_at f ks))) u ≡ true) → (has triple_cmp (map changed (changes_at k (f k))) u || has triple_cmp (map changed (changes_of (parts_at f ks))) u) ≡ true
+    kept : (a b x y : Bool) → x ≡ a → (y ≡ true → b ≡ true) → (x || y) ≡ true → (a || b) ≡ true
+    kept true b x y e f h = refl
+    kept false b true y e f h = absurd (both_ways true e refl)
+    kept false b false y e f h = f h
+
+    by : (v : Bool) → is_eq (key_cmp part.key (keys.Data u.p u.s)) ≡ v → has posting_cmp (map posting_of (flat_map (λ p. p.ops) (cond v (part ∷ filter (λ p. is_eq (key_cmp p.key (keys.Data u.p u.s))) parts) (filter (λ p. is_eq (key_cmp p.key (keys.Data u.p u.s))) parts)))) u.o ≡ true → (has posting_cmp (map posting_of (ops_at parts (keys.Data u.p u.s))) u.o ≡ true → has triple_cmp (map changed (changes_of parts)) u ≡ true) → (has triple_cmp (map changed (changes_at part.key part.ops)) u || has triple_cmp (map changed (changes_of parts)) u) ≡ true
     by true e h rest =
-        let same : k ≡ keys.Data u.p u.s = is_one key_cmp key_order k (keys.Data u.p u.s) e in
-        first (has triple_cmp (map changed (changes_at k (f k))) u) (has triple_cmp (map changed (changes_of (parts_at f ks))) u)
-        (ap (λ (l : Key). has triple_cmp (map changed (changes_at l (f l))) u) same ∙ (ops_cover u.p u.s u (f (keys.Data u.p u.s)) refl refl ∙ c))
-    by false e h rest = later (has triple_cmp (map changed (changes_at k (f k))) u) (has triple_cmp (map changed (changes_of (parts_at f ks))) u) (rest h)
+        let same : part.key ≡ keys.Data u.p u.s = is_one key_cmp key_order part.key (keys.Data u.p u.s) e in
+        let split : has posting_cmp (map posting_of (part.ops ++ ops_at parts (keys.Data u.p u.s))) u.o ≡ (has posting_cmp (map posting_of part.ops) u.o || has posting_cmp (map posting_of (ops_at parts (keys.Data u.p u.s))) u.o) =
+        ap (λ (os : List Posting). has posting_cmp os u.o) (map-append posting_of part.ops (ops_at parts (keys.Data u.p u.s))) ∙ has_joined posting_cmp posting_order (map posting_of part.ops) (map posting_of (ops_at parts (keys.Data u.p u.s))) u.o in
+        kept (has triple_cmp (map changed (changes_at part.key part.ops)) u) (has triple_cmp (map changed (changes_of parts)) u) (has posting_cmp (map posting_of part.ops) u.o) (has posting_cmp (map posting_of (ops_at parts (keys.Data u.p u.s))) u.o)
+        (sym (ap (λ (l : Key). has triple_cmp (map changed (changes_at l part.ops)) u) same ∙ ops_cover u.p u.s u part.ops refl refl)) rest (sym split ∙ h)
+    by false e h rest = later (has triple_cmp (map changed (changes_at part.key part.ops)) u) (has triple_cmp (map changed (changes_of parts)) u) (rest h)
 
-deltas_cover : (schema : List PredDef) (graph : List Triple) (cs : List Change) → IsPlain schema → AreFitting schema cs → IsLawful schema graph → (u : Triple) → (has_triple graph u ≡ has_triple (after_changes schema graph cs) u → ⊥) → has triple_cmp (map changed (changes_of (deltas schema graph cs))) u ≡ true
-deltas_cover schema graph cs plain fit l u ne = by (has key_cmp (data_keys cs) (keys.Data u.p u.s)) refl
-  where
-    apart_lists : has posting_cmp (listing schema graph (keys.Data u.p u.s)) u.o ≡ has posting_cmp (listing schema (after_changes schema graph cs) (keys.Data u.p u.s)) u.o → ⊥
-    apart_lists e = ne (sym (listed_by schema graph u.p u.s u.o l) ∙ (e ∙ listed_by schema (after_changes schema graph cs) u.p u.s u.o (lawful_goal schema graph cs fit l)))
-
-    by : (v : Bool) → has key_cmp (data_keys cs) (keys.Data u.p u.s) ≡ v → has triple_cmp (map changed (changes_of (deltas schema graph cs))) u ≡ true
-    by true h = keys_cover (gains schema graph (after_changes schema graph cs)) (data_keys cs) u (between_covers (listing schema graph (keys.Data u.p u.s)) (listing schema (after_changes schema graph cs) (keys.Data u.p u.s)) u.o apart_lists) h
-    by false h = absurd (apart_lists (ap (λ (os : List Posting). has posting_cmp os u.o) (keeps_list schema graph cs (keys.Data u.p u.s) plain l.ascend h)))
+gains_cover : (schema : List PredDef) (graph goal : List Triple) (parts : List Part) → IsLawful schema graph → IsLawful schema goal → AreGainsAndLosses schema graph schema goal parts → (u : Triple) → (has_triple graph u ≡ has_triple goal u → ⊥) → has triple_cmp (map changed (changes_of parts)) u ≡ true
+gains_cover schema graph goal parts l m e u ne =
+    parts_cover parts u
+    (ap (λ (os : List Op). has posting_cmp (map posting_of os) u.o) (e.exact (keys.Data u.p u.s))
+    ∙ between_covers (listing schema graph (keys.Data u.p u.s)) (listing schema goal (keys.Data u.p u.s)) u.o
+    (λ same. ne (sym (listed_by schema graph u.p u.s u.o l) ∙ (same ∙ listed_by schema goal u.p u.s u.o m))))
 
 all_lead : (graph goal : List Triple) (ds : List Change) → AllByRecursion (IsOfDifference graph goal) ds → AllByRecursion (Leads goal) ds
 all_lead graph goal ds a = all_with (IsOfDifference graph goal) (Leads goal) ds (λ d i. i.leads) a
 
 pub deltas_lead : DeltasLead
-deltas_lead schema graph cs plain fit l =
+deltas_lead schema graph cs parts fit l e =
     let m = lawful_goal schema graph cs fit l in
-    lead_there schema graph (after_changes schema graph cs) (changes_of (deltas schema graph cs)) l.ascend m.ascend (single_from schema (after_changes schema graph cs) m.single)
-    (all_lead graph (after_changes schema graph cs) (changes_of (deltas schema graph cs)) (deltas_differ schema graph cs fit l))
-    (λ u ne. deltas_cover schema graph cs plain fit l u ne)
+    lead_there schema graph (after_changes schema graph cs) (changes_of parts) l.ascend m.ascend (single_from schema (after_changes schema graph cs) m.single)
+    (all_lead graph (after_changes schema graph cs) (changes_of parts) (gains_differ schema graph (after_changes schema graph cs) parts l m e))
+    (λ u ne. gains_cover schema graph (after_changes schema graph cs) parts l m e u ne)
 
 -- ---- keys
 
@@ -195,10 +200,6 @@ differing_fits schema graph goal t l m ne = by (has_triple graph t) (has_triple 
     by false true e f = at triple_cmp triple_order (λ u. fits schema u ≡ true) goal t m.fit f
     by false false e f = absurd (ne (e ∙ sym f))
 
-pub deltas_fit : (schema : List PredDef) (graph : List Triple) (cs : List Change) → AreFitting schema cs → IsLawful schema graph → AreFitting schema (changes_of (deltas schema graph cs))
-deltas_fit schema graph cs fit l =
-    all_with (IsOfDifference graph (after_changes schema graph cs)) (λ d. fits schema (changed d) ≡ true) (changes_of (deltas schema graph cs)) (λ d i. differing_fits schema graph (after_changes schema graph cs) (changed d) l (lawful_goal schema graph cs fit l) i.differs) (deltas_differ schema graph cs fit l)
-
 -- and its key is among those of the changes
 differing_keyed : (schema : List PredDef) (graph : List Triple) (cs : List Change) (t : Triple) → (has_triple graph t ≡ has_triple (after_changes schema graph cs) t → ⊥) → has conflict_cmp (data_conflicts schema cs) (data_conflict schema t) ≡ true
 differing_keyed schema graph cs t ne = by (has conflict_cmp (data_conflicts schema cs) (data_conflict schema t)) refl
@@ -207,22 +208,17 @@ differing_keyed schema graph cs t ne = by (has conflict_cmp (data_conflicts sche
     by true h = refl
     by false h = absurd (ne (sym (changes_by_triple schema graph cs t ∙ all_apart schema t (has_triple graph t) cs h)))
 
-pub deltas_keyed : (schema : List PredDef) (graph : List Triple) (cs : List Change) → AreFitting schema cs → IsLawful schema graph → AllByRecursion (λ d. has conflict_cmp (data_conflicts schema cs) (data_conflict schema (changed d)) ≡ true) (changes_of (deltas schema graph cs))
-deltas_keyed schema graph cs fit l =
-    all_with (IsOfDifference graph (after_changes schema graph cs)) (λ d. has conflict_cmp (data_conflicts schema cs) (data_conflict schema (changed d)) ≡ true) (changes_of (deltas schema graph cs)) (λ d i. differing_keyed schema graph cs (changed d) i.differs) (deltas_differ schema graph cs fit l)
+pub deltas_keyed : (schema : List PredDef) (graph : List Triple) (cs : List Change) (parts : List Part) → AreFitting schema cs → IsLawful schema graph → AreGainsAndLosses schema graph schema (after_changes schema graph cs) parts → AllByRecursion (λ d. has conflict_cmp (data_conflicts schema cs) (data_conflict schema (changed d)) ≡ true) (changes_of parts)
+deltas_keyed schema graph cs parts fit l e =
+    all_with (IsOfDifference graph (after_changes schema graph cs)) (λ d. has conflict_cmp (data_conflicts schema cs) (data_conflict schema (changed d)) ≡ true) (changes_of parts) (λ d i. differing_keyed schema graph cs (changed d) i.differs) (gains_differ schema graph (after_changes schema graph cs) parts l (lawful_goal schema graph cs fit l) e)
 
 -- the same of the keys themselves
 keyed : (schema : List PredDef) (P : ConflictKey → Type 0) (ds : List Change) → AllByRecursion (λ d. P (data_conflict schema (changed d))) ds → AllByRecursion P (data_conflicts schema ds)
 keyed schema P [] a = tt
 keyed schema P (d ∷ ds) a = (a.0, keyed schema P ds a.1)
 
-named : (schema : List PredDef) (graph : List Triple) (cs ds : List Change) → AllByRecursion (λ d. has conflict_cmp (data_conflicts schema cs) (data_conflict schema (changed d)) ≡ true) ds → AllByRecursion (λ key. has conflict_cmp (ascending conflict_cmp (data_conflicts schema cs)) key ≡ true) (ascending conflict_cmp (data_conflicts schema ds))
-named schema graph cs ds a =
-    from_each conflict_cmp conflict_order (λ key. has conflict_cmp (ascending conflict_cmp (data_conflicts schema cs)) key ≡ true) (ascending conflict_cmp (data_conflicts schema ds))
-    (λ key h. has_more conflict_cmp conflict_order [] (data_conflicts schema cs) key ∙ at conflict_cmp conflict_order (λ k. has conflict_cmp (data_conflicts schema cs) k ≡ true) (data_conflicts schema ds) key (keyed schema (λ k. has conflict_cmp (data_conflicts schema cs) k ≡ true) ds a) (sym (has_more conflict_cmp conflict_order [] (data_conflicts schema ds) key) ∙ h))
-
 -- predicates
-pred_named : (cs : List Change) (key : Key) → has key_cmp (map data_key cs) key ≡ true → has text_cmp (map (λ c. (changed c).p) cs) (pred_of key) ≡ true
+pub pred_named : (cs : List Change) (key : Key) → has key_cmp (map data_key cs) key ≡ true → has text_cmp (map (λ c. (changed c).p) cs) (pred_of key) ≡ true
 pred_named [] key h = absurd (cc)
 pred_named (c ∷ cs) key h = by (is_eq (key_cmp (data_key c) key)) refl h (λ k. pred_named cs key k)
   where
@@ -240,7 +236,7 @@ pred_named (c ∷ cs) key h = by (is_eq (key_cmp (data_key c) key)) refl h (λ k
         first (is_eq (text_cmp (changed c).p (pred_of key))) (has text_cmp (map (λ d. (changed d).p) cs) (pred_of key)) (subst (λ (p : List ℕ). is_eq (text_cmp (changed c).p p) ≡ true) same (is_itself text_cmp text_order (changed c).p))
     by false e h rest = later (is_eq (text_cmp (changed c).p (pred_of key))) (has text_cmp (map (λ d. (changed d).p) cs) (pred_of key)) (rest h)
 
-some_preds : (cs : List Change) → cs ≢ [] → preds_of cs ≢ []
+pub some_preds : (cs : List Change) → cs ≢ [] → preds_of cs ≢ []
 some_preds [] n e = n refl
 some_preds (c ∷ cs) n e =
     let h = has_more text_cmp text_order [] (map (λ d. (changed d).p) (c ∷ cs)) (changed c).p in
@@ -252,24 +248,6 @@ some_preds (c ∷ cs) n e =
     clash true b e f = cc
     clash false b e f = cc
 
-pub offers_are_sound : OffersAreSound
-offers_are_sound schema graph cs some plain fit l =
-    let m = lawful_goal schema graph cs fit l in
-    let lead = deltas_lead schema graph cs plain fit l in
-    let mine = keys_stay schema graph cs plain fit in
-    let its = keys_stay schema graph (changes_of (deltas schema graph cs)) plain (deltas_fit schema graph cs fit l) in
-    record {
-      some = some_preds cs some;
-      lawful = subst (λ (g : List Triple). IsLawful schema g) (sym lead) m;
-      parts_are = subst (λ (g : List Triple). AreGainsAndLosses schema graph schema g (deltas schema graph cs)) (sym lead) (deltas_agree schema graph cs plain fit l);
-      ascend = ascends_more conflict_cmp conflict_order [] (keys_of_changes schema graph cs) tt;
-      keys_named = subst (λ (ks : List ConflictKey). AllByRecursion (λ key. has conflict_cmp ks key ≡ true) (conflict_keys schema graph (changes_of (deltas schema graph cs)))) (sym mine) (subst (λ (ks : List ConflictKey). AllByRecursion (λ key. has conflict_cmp (ascending conflict_cmp (data_conflicts schema cs)) key ≡ true) ks) (sym its) (named schema graph cs (changes_of (deltas schema graph cs)) (deltas_keyed schema graph cs fit l)));
-      preds_named = all_parts (λ part. has text_cmp (preds_of cs) (pred_of part.key) ≡ true) (gains schema graph (after_changes schema graph cs)) (data_keys cs) (λ key op os h e. has_more text_cmp text_order [] (map (λ c. (changed c).p) cs) (pred_of key) ∙ pred_named cs key (sym (keys_are cs key) ∙ h));
-    }
-
-pub offers_are_made : OffersAreMade
-offers_are_made schema graph cs plain fit l = record { keys_are = refl; lead_alike = deltas_lead schema graph cs plain fit l }
-
 -- ---- at a later graph
 
 unkeyed : (schema : List PredDef) (ks : List ConflictKey) (key : ConflictKey) (ds : List Change) → has conflict_cmp ks key ≡ false → AllByRecursion (λ d. has conflict_cmp ks (data_conflict schema (changed d)) ≡ true) ds → has conflict_cmp (data_conflicts schema ds) key ≡ false
@@ -280,18 +258,18 @@ unkeyed schema ks key ds h a = by (has conflict_cmp (data_conflicts schema ds) k
     by false e = refl
 
 pub changes_do_as_parts : ChangesDoAsParts
-changes_do_as_parts schema graph later cs plain fit l m agree =
-    known_by_triples (after_changes schema later cs) (after_changes schema later (changes_of (deltas schema graph cs)))
-    (changes_ascend schema later cs m.ascend) (changes_ascend schema later (changes_of (deltas schema graph cs)) m.ascend)
-    (λ u. changes_by_triple schema later cs u ∙ (by u (has conflict_cmp (data_conflicts schema cs) (data_conflict schema u)) refl ∙ sym (changes_by_triple schema later (changes_of (deltas schema graph cs)) u)))
+changes_do_as_parts schema graph later cs parts fit l m e agree =
+    known_by_triples (after_changes schema later cs) (after_changes schema later (changes_of parts))
+    (changes_ascend schema later cs m.ascend) (changes_ascend schema later (changes_of parts) m.ascend)
+    (λ u. changes_by_triple schema later cs u ∙ (by u (has conflict_cmp (data_conflicts schema cs) (data_conflict schema u)) refl ∙ sym (changes_by_triple schema later (changes_of parts) u)))
   where
-    by : (u : Triple) (v : Bool) → has conflict_cmp (data_conflicts schema cs) (data_conflict schema u) ≡ v → there_after_all schema u (has_triple later u) cs ≡ there_after_all schema u (has_triple later u) (changes_of (deltas schema graph cs))
+    by : (u : Triple) (v : Bool) → has conflict_cmp (data_conflicts schema cs) (data_conflict schema u) ≡ v → there_after_all schema u (has_triple later u) cs ≡ there_after_all schema u (has_triple later u) (changes_of parts)
     by u true h =
         let same = agree u h in
-        let at_start : there_after_all schema u (has_triple graph u) cs ≡ there_after_all schema u (has_triple graph u) (changes_of (deltas schema graph cs)) =
-        sym (changes_by_triple schema graph cs u) ∙ (ap (λ (g : List Triple). has_triple g u) (sym (deltas_lead schema graph cs plain fit l)) ∙ changes_by_triple schema graph (changes_of (deltas schema graph cs)) u) in
-        subst (λ (b : Bool). there_after_all schema u b cs ≡ there_after_all schema u b (changes_of (deltas schema graph cs))) same at_start
-    by u false h = all_apart schema u (has_triple later u) cs h ∙ sym (all_apart schema u (has_triple later u) (changes_of (deltas schema graph cs)) (unkeyed schema (data_conflicts schema cs) (data_conflict schema u) (changes_of (deltas schema graph cs)) h (deltas_keyed schema graph cs fit l)))
+        let at_start : there_after_all schema u (has_triple graph u) cs ≡ there_after_all schema u (has_triple graph u) (changes_of parts) =
+        sym (changes_by_triple schema graph cs u) ∙ (ap (λ (g : List Triple). has_triple g u) (sym (deltas_lead schema graph cs parts fit l e)) ∙ changes_by_triple schema graph (changes_of parts) u) in
+        subst (λ (b : Bool). there_after_all schema u b cs ≡ there_after_all schema u b (changes_of parts)) same at_start
+    by u false h = all_apart schema u (has_triple later u) cs h ∙ sym (all_apart schema u (has_triple later u) (changes_of parts) (unkeyed schema (data_conflicts schema cs) (data_conflict schema u) (changes_of parts) h (deltas_keyed schema graph cs parts fit l e)))
 
 -- ---- what others commit
 
@@ -314,5 +292,5 @@ lawful_done schema graph [] k l = l
 lawful_done schema graph (d ∷ ds) k l = lawful_done schema (after_changes schema graph d.changes) ds k.1 (lawful_goal schema graph d.changes k.0.fitting l)
 
 pub commits_do_as_changes : CommitsDoAsChanges
-commits_do_as_changes schema graph cs others plain fit l k none =
-    changes_do_as_parts schema graph (after_done schema graph others) cs plain fit l (lawful_done schema graph others k l) (others_leave schema graph cs others k none)
+commits_do_as_changes schema graph cs parts others fit l e k none =
+    changes_do_as_parts schema graph (after_done schema graph others) cs parts fit l (lawful_done schema graph others k l) e (others_leave schema graph cs others k none)

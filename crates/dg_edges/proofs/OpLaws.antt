@@ -64,7 +64,7 @@ between_has old new o =
     ∙ λ i. has_passed posting_cmp posting_order (λ w. not (has posting_cmp new w)) old o i || has_passed posting_cmp posting_order (λ w. not (has posting_cmp old w)) new o i)
 
 -- a list without elements
-nothing : (os : List Posting) → ((o : Posting) → has posting_cmp os o ≡ false) → os ≡ []
+pub nothing : (os : List Posting) → ((o : Posting) → has posting_cmp os o ≡ false) → os ≡ []
 nothing [] f = refl
 nothing (o ∷ os) f = absurd (none (is_eq (posting_cmp o o)) (has posting_cmp os o) (is_itself posting_cmp posting_order o) (f o))
   where

@@ -1,20 +1,17 @@
 -- Parts of an ascending list of keys.
-use Rattle.std.proofs.Common.{◌≡◌, Bool, true, false, cond, List, [], ◌∷◌, ◌++◌, flat_map, refl, ap, subst, sym, ◌∙◌}
+use Rattle.std.proofs.Common.{◌≡◌, Bool, true, false, cond, List, [], ◌∷◌, ◌++◌, flat_map, refl, ap, subst, ◌∙◌}
 use Rattle.std.specs.Prelude.{◌||◌, filter}
 use Rattle.std.specs.List.{AllByRecursion}
 use Rattle.std.proofs.lemmas.List.{append-nil}
 use Rattle.std.specs.declared.cmp.Ordering.TheVariants.{Less}
 use Rattle.std.specs.Ordering.{is_eq}
 use Rattle.dg_values.specs.Ascending.{Ascends, has}
-use Rattle.dg_sets.proofs.Sets.{is_one, is_itself, not_above}
+use Rattle.dg_sets.proofs.Sets.{is_one, is_itself, back, not_above}
 use Rattle.dg_delta.specs.declared.op.Op.{Op}
 use Rattle.dg_delta.specs.Ops.{op_cmp, AreOps}
-use Rattle.dg_graph.specs.declared.change.Change.{Change}
 use Rattle.dg_keys.specs.declared.key.Key.{Key}
-use Rattle.dg_keys.specs.declared.key.Key.TheVariants as keys
 use Rattle.dg_keys.specs.declared.record.Part.{Part}
 use Rattle.dg_keys.specs.Keys.{key_cmp, part_cmp, ops_at, AreParts}
-use Rattle.dg_zero.specs.Worlds.{changes_at, changes_of}
 use Rattle.dg_keys.specs.KeyOrder.{key_order}
 use Rattle.dg_edges.specs.Deltas.{and_part, parts_at}
 
@@ -85,24 +82,37 @@ ops_at_parts f (k ∷ ks) key a = ops_at_part k key (f k) (parts_at f ks) ∙ by
         let none : ops_at (parts_at f ks) key ≡ [] = rest ∙ ap (λ (b : Bool). cond b (f key) []) out in
         (λ i. f (same i) ++ none i) ∙ append-nil (f key)
 
--- ---- parts as changes
-
-changes_of_part : (k : Key) (os : List Op) (parts : List Part) → changes_at k [] ≡ [] → changes_of (and_part k os parts) ≡ changes_at k os ++ changes_of parts
-changes_of_part k [] parts e = ap (λ (cs : List Change). cs ++ changes_of parts) (sym e)
-changes_of_part k (op ∷ ops) parts e = refl
+-- ---- lists side by side
 
 pub all_joined : {X : Type 0} (P : X → Type 0) (xs ys : List X) → AllByRecursion P xs → AllByRecursion P ys → AllByRecursion P (xs ++ ys)
 all_joined P [] ys a b = b
 all_joined P (x ∷ xs) ys a b = (a.0, all_joined P xs ys a.1 b)
 
-no_ops : (k : Key) → changes_at k [] ≡ []
-no_ops k = elim k as (λ l. changes_at l [] ≡ []) [ keys.Data p s ↦ refl | keys.Index p t ↦ refl | keys.Reverse p o ↦ refl | keys.Count p n ↦ refl | keys.RCount p n ↦ refl ]
+-- ---- a part's operations are those at its key
 
-pub all_changes : (P : Change → Type 0) (f : Key → List Op) (ks : List Key) → AllByRecursion (λ k. AllByRecursion P (changes_at k (f k))) ks → AllByRecursion P (changes_of (parts_at f ks))
-all_changes P f [] a = tt
-all_changes P f (k ∷ ks) a =
-    subst (λ (cs : List Change). AllByRecursion P cs) (sym (changes_of_part k (f k) (parts_at f ks) (no_ops k)))
-    (all_joined P (changes_at k (f k)) (changes_of (parts_at f ks)) a.0 (all_changes P f ks a.1))
+none_at : (key : Key) (parts : List Part) → AllByRecursion (λ part. key_cmp key part.key ≡ Less) parts → ops_at parts key ≡ []
+none_at key [] a = refl
+none_at key (part ∷ parts) a = by (is_eq (key_cmp part.key key)) (ap is_eq (back key_cmp key_order key part.key a.0)) (none_at key parts a.1)
+  where
+    by : (v : Bool) → v ≡ false → ops_at parts key ≡ [] → flat_map (λ p. p.ops) (cond v (part ∷ filter (λ p. is_eq (key_cmp p.key key)) parts) (filter (λ p. is_eq (key_cmp p.key key)) parts)) ≡ []
+    by true e rest = absurd (cc)
+    by false e rest = rest
 
-pub changes_joined : (f : Key → List Op) (k : Key) (ks : List Key) → changes_of (parts_at f (k ∷ ks)) ≡ changes_at k (f k) ++ changes_of (parts_at f ks)
-changes_joined f k ks = changes_of_part k (f k) (parts_at f ks) (no_ops k)
+first_at : (part : Part) (parts : List Part) → AllByRecursion (λ p. key_cmp part.key p.key ≡ Less) parts → ops_at (part ∷ parts) part.key ≡ part.ops
+first_at part parts a = by (is_eq (key_cmp part.key part.key)) (is_itself key_cmp key_order part.key) (none_at part.key parts a)
+  where
+    by : (v : Bool) → v ≡ true → ops_at parts part.key ≡ [] → flat_map (λ p. p.ops) (cond v (part ∷ filter (λ p. is_eq (key_cmp p.key part.key)) parts) (filter (λ p. is_eq (key_cmp p.key part.key)) parts)) ≡ part.ops
+    by true e rest = (λ i. part.ops ++ rest i) ∙ append-nil part.ops
+    by false e rest = absurd (cc)
+
+later_at : (part : Part) (parts more : List Part) → AllByRecursion (λ p. key_cmp part.key p.key ≡ Less) more → AllByRecursion (λ p. ops_at parts p.key ≡ p.ops) more → AllByRecursion (λ p. ops_at (part ∷ parts) p.key ≡ p.ops) more
+later_at part parts [] a b = tt
+later_at part parts (p ∷ more) a b = (by (is_eq (key_cmp part.key p.key)) (ap is_eq a.0) b.0, later_at part parts more a.1 b.1)
+  where
+    by : (v : Bool) → v ≡ false → ops_at parts p.key ≡ p.ops → flat_map (λ q. q.ops) (cond v (part ∷ filter (λ q. is_eq (key_cmp q.key p.key)) parts) (filter (λ q. is_eq (key_cmp q.key p.key)) parts)) ≡ p.ops
+    by true e rest = absurd (cc)
+    by false e rest = rest
+
+pub own_ops : (parts : List Part) → Ascends part_cmp parts → AllByRecursion (λ p. ops_at parts p.key ≡ p.ops) parts
+own_ops [] a = tt
+own_ops (part ∷ parts) a = (first_at part parts a.0, later_at part parts parts a.0 (own_ops parts a.1))

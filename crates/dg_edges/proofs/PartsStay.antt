@@ -1,5 +1,5 @@
--- On a later graph that agrees at the keys of changes, lists gain and lose by the changes what they did.
-use Rattle.std.proofs.Common.{◌≡◌, ℕ, Bool, true, false, not, List, fold, map, refl, subst, sym, ◌∙◌}
+-- Lists that differ alike, and triples that changes do one thing to in two graphs.
+use Rattle.std.proofs.Common.{◌≡◌, Bool, true, false, not, List, fold, map, refl, subst, sym, ◌∙◌}
 use Rattle.std.specs.Prelude.{◌&&◌}
 use Rattle.dg_values.specs.Ascending.{Ascends, has, with_one}
 use Rattle.dg_values.specs.Order.{posting_cmp}
@@ -11,18 +11,13 @@ use Rattle.dg_delta.specs.Ops.{op_cmp, missing, changes_between}
 use Rattle.dg_schema.specs.declared.definition.PredDef.{PredDef}
 use Rattle.dg_graph.specs.declared.change.Triple.{Triple}
 use Rattle.dg_graph.specs.declared.change.Change.{Change}
-use Rattle.dg_graph.specs.Graphs.{after_changes, IsLawful}
+use Rattle.dg_graph.specs.Graphs.{after_changes}
 use Rattle.dg_graph.specs.Changes.{has_triple, there_after_all}
 use Rattle.dg_graph.proofs.GraphLaws.{changes_by_triple}
-use Rattle.dg_keys.specs.declared.key.Key.{Key}
-use Rattle.dg_keys.specs.declared.key.Key.TheVariants as keys
 use Rattle.dg_keys.specs.Conflicts.{conflict_cmp}
-use Rattle.dg_zero.specs.Listings.{listing}
-use Rattle.dg_edges.specs.Deltas.{parts_at, gains, data_keys, data_conflict, data_conflicts, IsPlain, AreFitting}
-use Rattle.dg_edges.specs.Laws.{AgreeAt, PartsStay}
+use Rattle.dg_edges.specs.Deltas.{data_conflict, data_conflicts}
+use Rattle.dg_edges.specs.Laws.{AgreeAt}
 use Rattle.dg_edges.proofs.AgreeLaws.{all_apart}
-use Rattle.dg_edges.proofs.EdgeLaws.{listed_by, listing_ascends, other_same, gains_none}
-use Rattle.dg_edges.proofs.OfferLaws.{lawful_goal}
 
 -- ---- lists that differ alike
 
@@ -76,20 +71,10 @@ unmoved old new old' new' d e = by old' new' (sym d.lost ∙ ((λ i. not new && 
     by false true f g = absurd (cc)
     by false false f g = refl
 
--- a data key's list gains and loses alike where each triple does
-data_gains_alike : (schema : List PredDef) (old new old' new' : List Triple) (p : List ℕ) (s : ℕ) → IsLawful schema old → IsLawful schema new → IsLawful schema old' → IsLawful schema new' → ((o : Posting) → DifferAlike (has_triple old (record { s = s; p = p; o = o })) (has_triple new (record { s = s; p = p; o = o })) (has_triple old' (record { s = s; p = p; o = o })) (has_triple new' (record { s = s; p = p; o = o }))) → gains schema old new (keys.Data p s) ≡ gains schema old' new' (keys.Data p s)
-data_gains_alike schema old new old' new' p s a b c d f =
-    same_changes (listing schema old (keys.Data p s)) (listing schema new (keys.Data p s)) (listing schema old' (keys.Data p s)) (listing schema new' (keys.Data p s))
-    (listing_ascends schema old (keys.Data p s) a.ascend) (listing_ascends schema new (keys.Data p s) b.ascend) (listing_ascends schema old' (keys.Data p s) c.ascend) (listing_ascends schema new' (keys.Data p s) d.ascend)
-    (λ o. both_ends (listed_by schema old p s o a) (listed_by schema new p s o b) (listed_by schema old' p s o c) (listed_by schema new' p s o d) (f o))
-  where
-    both_ends : {w x y z w' x' y' z' : Bool} → w' ≡ w → x' ≡ x → y' ≡ y → z' ≡ z → DifferAlike w x y z → DifferAlike w' x' y' z'
-    both_ends e f g h q = record { lost = (λ i. not (f i) && e i) ∙ (q.lost ∙ sym (λ i. not (h i) && g i)); gained = (λ i. not (e i) && f i) ∙ (q.gained ∙ sym (λ i. not (g i) && h i)) }
-
 -- ---- graphs that agree at the keys
 
 -- each triple
-triple_alike : (schema : List PredDef) (graph later : List Triple) (cs : List Change) (u : Triple) → AgreeAt schema cs graph later → DifferAlike (has_triple graph u) (has_triple (after_changes schema graph cs) u) (has_triple later u) (has_triple (after_changes schema later cs) u)
+pub triple_alike : (schema : List PredDef) (graph later : List Triple) (cs : List Change) (u : Triple) → AgreeAt schema cs graph later → DifferAlike (has_triple graph u) (has_triple (after_changes schema graph cs) u) (has_triple later u) (has_triple (after_changes schema later cs) u)
 triple_alike schema graph later cs u agree = by (has conflict_cmp (data_conflicts schema cs) (data_conflict schema u)) refl
   where
     by : (v : Bool) → has conflict_cmp (data_conflicts schema cs) (data_conflict schema u) ≡ v → DifferAlike (has_triple graph u) (has_triple (after_changes schema graph cs) u) (has_triple later u) (has_triple (after_changes schema later cs) u)
@@ -103,22 +88,3 @@ triple_alike schema graph later cs u agree = by (has conflict_cmp (data_conflict
         let two : has_triple later u ≡ has_triple (after_changes schema later cs) u = sym (changes_by_triple schema later cs u ∙ all_apart schema u (has_triple later u) cs h) in
         subst (λ (b : Bool). DifferAlike (has_triple graph u) b (has_triple later u) (has_triple (after_changes schema later cs) u)) one
         (subst (λ (b : Bool). DifferAlike (has_triple graph u) (has_triple graph u) (has_triple later u) b) two (unchanged (has_triple graph u) (has_triple later u)))
-
--- other keys list nothing
-no_gains : (schema : List PredDef) (graph later : List Triple) (cs : List Change) (k : Key) → IsPlain schema → ((p : List ℕ) (s : ℕ) → k ≡ keys.Data p s → ⊥) → gains schema graph (after_changes schema graph cs) k ≡ gains schema later (after_changes schema later cs) k
-no_gains schema graph later cs k plain other =
-    gains_none schema graph (after_changes schema graph cs) k (other_same schema graph (after_changes schema graph cs) k plain other)
-    ∙ sym (gains_none schema later (after_changes schema later cs) k (other_same schema later (after_changes schema later cs) k plain other))
-
--- each key
-gains_stay : (schema : List PredDef) (graph later : List Triple) (cs : List Change) → IsPlain schema → AreFitting schema cs → IsLawful schema graph → IsLawful schema later → AgreeAt schema cs graph later → (k : Key) → gains schema graph (after_changes schema graph cs) k ≡ gains schema later (after_changes schema later cs) k
-gains_stay schema graph later cs plain fit l m agree (keys.Data p s) =
-    data_gains_alike schema graph (after_changes schema graph cs) later (after_changes schema later cs) p s l (lawful_goal schema graph cs fit l) m (lawful_goal schema later cs fit m)
-    (λ o. triple_alike schema graph later cs (record { s = s; p = p; o = o }) agree)
-gains_stay schema graph later cs plain fit l m agree (keys.Index p t) = no_gains schema graph later cs (keys.Index p t) plain (λ q s e. cc)
-gains_stay schema graph later cs plain fit l m agree (keys.Reverse p o) = no_gains schema graph later cs (keys.Reverse p o) plain (λ q s e. cc)
-gains_stay schema graph later cs plain fit l m agree (keys.Count p n) = no_gains schema graph later cs (keys.Count p n) plain (λ q s e. cc)
-gains_stay schema graph later cs plain fit l m agree (keys.RCount p n) = no_gains schema graph later cs (keys.RCount p n) plain (λ q s e. cc)
-
-pub parts_stay : PartsStay
-parts_stay schema graph later cs plain fit l m agree = λ i. parts_at (λ k. sym (gains_stay schema graph later cs plain fit l m agree k) i) (data_keys cs)

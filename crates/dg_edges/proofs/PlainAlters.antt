@@ -58,7 +58,7 @@ found_plain (first ∷ ds) p d a e = by (same_text first.name p) refl e (found_p
     by false same h more = more h
 
 -- a predicate that no triple of a graph fits has no object
-none_listed : (schema : List PredDef) (graph : List Triple) (p : List ℕ) (s : ℕ) → definition_of schema p ≡ None → AllByRecursion (λ t. fits schema t ≡ true) graph → objects graph p s ≡ []
+pub none_listed : (schema : List PredDef) (graph : List Triple) (p : List ℕ) (s : ℕ) → definition_of schema p ≡ None → AllByRecursion (λ t. fits schema t ≡ true) graph → objects graph p s ≡ []
 none_listed schema [] p s none a = refl
 none_listed schema (t ∷ graph) p s none a =
     let other : is_of_subject p s t ≡ false = by (is_of_subject p s t) refl in

@@ -1,4 +1,4 @@
--- What changes make of lists, as parts, and the keys of changes, where a schema has no index, reverse and count.
+-- Parts by their keys, the subjects and predicates of changes, and the keys of changes where a schema has no index, reverse and count.
 use Rattle.std.specs.Prelude.{◌≡◌, ℕ, true, false, List, [], ◌∷◌, Some, None, if◌then◌else◌, map}
 use Rattle.std.specs.List.{AllByRecursion}
 use Rattle.dg_values.specs.Order.{text_cmp}
@@ -8,7 +8,7 @@ use Rattle.dg_delta.specs.Ops.{changes_between}
 use Rattle.dg_schema.specs.declared.definition.PredDef.{PredDef}
 use Rattle.dg_graph.specs.declared.change.Triple.{Triple}
 use Rattle.dg_graph.specs.declared.change.Change.{Change}
-use Rattle.dg_graph.specs.Graphs.{after_changes, fits}
+use Rattle.dg_graph.specs.Graphs.{fits}
 use Rattle.dg_schema.specs.Definitions.{is_single}
 use Rattle.dg_graph.specs.Changes.{changed}
 use Rattle.dg_keys.specs.declared.key.Key.{Key}
@@ -40,10 +40,6 @@ data_key change = keys.Data (changed change).p (changed change).s
 -- the keys of the subjects that are changed, ascending
 abbrev pub data_keys : List Change → List Key
 data_keys changes = ascending key_cmp (map data_key changes)
-
--- what changes make of lists
-abbrev pub deltas : List PredDef → List Triple → List Change → List Part
-deltas schema graph changes = parts_at (gains schema graph (after_changes schema graph changes)) (data_keys changes)
 
 -- the key by which changes of a triple conflict: of its subject, and also of its object where there may be several
 abbrev pub data_conflict : List PredDef → Triple → ConflictKey

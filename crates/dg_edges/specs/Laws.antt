@@ -29,28 +29,24 @@ use Rattle.dg_edges.specs.declared.edge.Edge.{Edge}
 use Rattle.dg_edges.specs.declared.fault.EdgeFault.{EdgeFault}
 use Rattle.dg_edges.specs.Resolving.{Resolves}
 use Rattle.dg_edges.specs.Expanding.{expanded}
-use Rattle.dg_edges.specs.Deltas.{deltas, data_conflict, data_conflicts, preds_of, IsPlain, AreFitting}
+use Rattle.dg_edges.specs.Deltas.{data_conflict, data_conflicts, preds_of, IsPlain, AreFitting}
 use Rattle.dg_edges.specs.Regions.{triple_keys, AgreeIn, listing_conflict}
 
--- the parts of changes are exactly what lists gain and lose by them
-abbrev pub DeltasAgree : Type 0
-DeltasAgree = (schema : List PredDef) (graph : List Triple) (changes : List Change) → IsPlain schema → AreFitting schema changes → IsLawful schema graph → AreGainsAndLosses schema graph schema (after_changes schema graph changes) (deltas schema graph changes)
-
--- the parts, as changes, lead where the changes lead
+-- parts that are what lists gain and lose by changes, as changes, lead where the changes lead
 abbrev pub DeltasLead : Type 0
-DeltasLead = (schema : List PredDef) (graph : List Triple) (changes : List Change) → IsPlain schema → AreFitting schema changes → IsLawful schema graph → after_changes schema graph (changes_of (deltas schema graph changes)) ≡ after_changes schema graph changes
+DeltasLead = (schema : List PredDef) (graph : List Triple) (changes : List Change) (parts : List Part) → AreFitting schema changes → IsLawful schema graph → AreGainsAndLosses schema graph schema (after_changes schema graph changes) parts → after_changes schema graph (changes_of parts) ≡ after_changes schema graph changes
 
--- the keys of changes don't depend on the graph
+-- where a schema has no index, reverse and count, the keys of changes don't depend on the graph
 abbrev pub KeysAre : Type 0
 KeysAre = (schema : List PredDef) (graph : List Triple) (changes : List Change) → IsPlain schema → AreFitting schema changes → conflict_keys schema graph changes ≡ ascending conflict_cmp (data_conflicts schema changes)
 
--- an offer of the parts and keys of one or more changes is sound
+-- an offer of such parts and the keys of one or more changes is sound
 abbrev pub OffersAreSound : Type 0
-OffersAreSound = (schema : List PredDef) (graph : List Triple) (changes : List Change) → changes ≢ [] → IsPlain schema → AreFitting schema changes → IsLawful schema graph → IsSound schema graph (preds_of changes) (conflict_keys schema graph changes) (deltas schema graph changes)
+OffersAreSound = (schema : List PredDef) (graph : List Triple) (changes : List Change) (parts : List Part) → changes ≢ [] → AreFitting schema changes → IsLawful schema graph → AreGainsAndLosses schema graph schema (after_changes schema graph changes) parts → IsSound schema graph (preds_of changes) (conflict_keys schema graph changes) parts
 
 -- and made of the changes
 abbrev pub OffersAreMade : Type 0
-OffersAreMade = (schema : List PredDef) (graph : List Triple) (changes : List Change) → IsPlain schema → AreFitting schema changes → IsLawful schema graph → IsMadeOf schema graph changes (conflict_keys schema graph changes) (deltas schema graph changes)
+OffersAreMade = (schema : List PredDef) (graph : List Triple) (changes : List Change) (parts : List Part) → AreFitting schema changes → IsLawful schema graph → AreGainsAndLosses schema graph schema (after_changes schema graph changes) parts → IsMadeOf schema graph changes (conflict_keys schema graph changes) parts
 
 -- two graphs have the same triples of these keys
 abbrev pub AgreeAt : List PredDef → List Change → List Triple → List Triple → Type 0
@@ -58,11 +54,15 @@ AgreeAt schema changes graph later = (u : Triple) → has conflict_cmp (data_con
 
 -- on a later graph that agrees at the keys of changes, the changes do what their parts do
 abbrev pub ChangesDoAsParts : Type 0
-ChangesDoAsParts = (schema : List PredDef) (graph later : List Triple) (changes : List Change) → IsPlain schema → AreFitting schema changes → IsLawful schema graph → IsLawful schema later → AgreeAt schema changes graph later → after_changes schema later changes ≡ after_changes schema later (changes_of (deltas schema graph changes))
+ChangesDoAsParts = (schema : List PredDef) (graph later : List Triple) (changes : List Change) (parts : List Part) → AreFitting schema changes → IsLawful schema graph → IsLawful schema later → AreGainsAndLosses schema graph schema (after_changes schema graph changes) parts → AgreeAt schema changes graph later → after_changes schema later changes ≡ after_changes schema later (changes_of parts)
 
--- and lists gain and lose by them what they did
+-- two graphs have the same triples of each key of changes, of whatever kind
+abbrev pub AgreeOn : List PredDef → List Change → List Triple → List Triple → Type 0
+AgreeOn schema changes graph later = (key : ConflictKey) → has conflict_cmp (conflict_keys schema graph changes) key ≡ true → AgreeIn schema key graph later
+
+-- there lists gain and lose by the changes what they did
 abbrev pub PartsStay : Type 0
-PartsStay = (schema : List PredDef) (graph later : List Triple) (changes : List Change) → IsPlain schema → AreFitting schema changes → IsLawful schema graph → IsLawful schema later → AgreeAt schema changes graph later → deltas schema later changes ≡ deltas schema graph changes
+PartsStay = (schema : List PredDef) (graph later : List Triple) (changes : List Change) (parts : List Part) → AreFitting schema changes → IsLawful schema graph → IsLawful schema later → AreGainsAndLosses schema graph schema (after_changes schema graph changes) parts → AgreeOn schema changes graph later → AreGainsAndLosses schema later schema (after_changes schema later changes) parts
 
 -- what another transaction committed: its changes and its keys
 pub record Done : Type 0 where
@@ -88,7 +88,7 @@ OthersLeave = (schema : List PredDef) (graph : List Triple) (changes : List Chan
 
 -- so at a commit its changes do what the parts do that were made of them at its start
 abbrev pub CommitsDoAsChanges : Type 0
-CommitsDoAsChanges = (schema : List PredDef) (graph : List Triple) (changes : List Change) (others : List Done) → IsPlain schema → AreFitting schema changes → IsLawful schema graph → AllByRecursion (IsKeyed schema) others → AllByRecursion (HasNone schema changes) others → after_changes schema (after_done schema graph others) changes ≡ after_changes schema (after_done schema graph others) (changes_of (deltas schema graph changes))
+CommitsDoAsChanges = (schema : List PredDef) (graph : List Triple) (changes : List Change) (parts : List Part) (others : List Done) → AreFitting schema changes → IsLawful schema graph → AreGainsAndLosses schema graph schema (after_changes schema graph changes) parts → AllByRecursion (IsKeyed schema) others → AllByRecursion (HasNone schema changes) others → after_changes schema (after_done schema graph others) changes ≡ after_changes schema (after_done schema graph others) (changes_of parts)
 
 -- in a legal history, what a commit that fits asked for does on the present graph what its data parts do
 abbrev pub CommitsDoAsAsked : Type 0

@@ -2,21 +2,28 @@
 //! lists, and the keys by which they conflict.
 #![tactic(auto)]
 
+mod altering;
 mod conflicts;
 mod deltas;
 mod differing;
 mod edge;
 mod expanding;
 mod fault;
+mod filing;
+mod gathering;
+mod joining;
 mod laws;
 mod lists;
 mod names;
+mod numbers;
 mod offer;
 mod plain;
 mod replaced;
+mod rereading;
 mod resolving;
 mod touched;
 
+pub use altering::schema_deltas;
 pub use conflicts::{conflict_keys, preds_of};
 pub use deltas::deltas_of;
 pub use differing::between;

@@ -1,9 +1,9 @@
 // Whole offers.
 ghost use Rattle.std.specs.Prelude.{◌≡◌, ◌≢◌, [], IfOk};
-ghost use Rattle.dg_graph.specs.Graphs.{IsLawful};
-ghost use Rattle.dg_zero.specs.Listings.{conflict_keys};
+ghost use Rattle.dg_graph.specs.Graphs.{after_changes, IsLawful};
+ghost use Rattle.dg_zero.specs.Listings.{AreGainsAndLosses, conflict_keys};
 ghost use Rattle.dg_zero.specs.Offers.{IsSound, IsMadeOf};
-ghost use Rattle.dg_edges.specs.Deltas.{deltas, preds_of, IsPlain, AreFitting};
+ghost use Rattle.dg_edges.specs.Deltas.{preds_of, AreFitting};
 
 use crate::{conflict_keys, deltas_of, preds_of};
 use dg_graph::{Change, Snapshot};
@@ -21,13 +21,12 @@ pub fn offer_of<S: Snapshot, L: Ledger>(
     changes: &[Change],
     reads: &mut Steps<L>,
 ) -> Mem<Offer>
-    requires plain { IsPlain (S.declared snap.now) }
     requires fitting { AreFitting (S.declared snap.now) changes.now }
     requires lawful { IsLawful (S.declared snap.now) (S.graph snap.now) }
     ensures start { IfOk result (λ offer. offer.start ≡ start) }
     ensures preds { IfOk result (λ offer. offer.preds ≡ preds_of changes.now) }
     ensures keys { IfOk result (λ offer. offer.keys ≡ conflict_keys (S.declared snap.now) (S.graph snap.now) changes.now) }
-    ensures parts { IfOk result (λ offer. offer.parts ≡ deltas (S.declared snap.now) (S.graph snap.now) changes.now) }
+    ensures parts { IfOk result (λ offer. AreGainsAndLosses (S.declared snap.now) (S.graph snap.now) (S.declared snap.now) (after_changes (S.declared snap.now) (S.graph snap.now) changes.now) offer.parts) }
     ensures changes { IfOk result (λ offer. offer.changes ≡ changes.now) }
     ensures sound { changes.now ≢ [] → IfOk result (λ offer. IsSound (S.declared snap.now) (S.graph snap.now) offer.preds offer.keys offer.parts) }
     ensures made_of { IfOk result (λ offer. IsMadeOf (S.declared snap.now) (S.graph snap.now) offer.changes offer.keys offer.parts) }

@@ -1,4 +1,4 @@
-// Whether offers can be made under a schema, and whether changes fit it.
+// Whether a schema keeps lists of objects alone, and whether changes fit it.
 ghost use Rattle.std.specs.Prelude.{◌≡◌, ◌↔◌, IsTrue};
 ghost use Rattle.dg_graph.specs.Graphs.{fits};
 ghost use Rattle.dg_graph.specs.Changes.{changed};

@@ -56,7 +56,7 @@ fn push_tokens(
 }
 
 // The tokens of an object by one tokenizer.
-fn object_tokens(alloc: Global, tokenizer: Tokenizer, object: &Posting) -> Mem<Vec<IndexToken>>
+pub fn object_tokens(alloc: Global, tokenizer: Tokenizer, object: &Posting) -> Mem<Vec<IndexToken>>
     ensures { IfOk result (λ v. v.items ≡ tokens_of_object tokenizer object.now) }
 {
     match object {

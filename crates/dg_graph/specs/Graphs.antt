@@ -2,7 +2,7 @@
 use Rattle.std.specs.Prelude.{◌≡◌, ℕ, Bool, true, false, ◌&&◌, ◌==◌, not, if◌then◌else◌, List, [], ◌∷◌, Option, Some, None, fold, map, filter}
 use Rattle.std.specs.List.{AllByRecursion, list_any}
 use Rattle.std.specs.declared.cmp.Ordering.{Ordering}
-use Rattle.std.specs.Ordering.{nat_cmp, ordering_then, is_eq}
+use Rattle.std.specs.Ordering.{nat_cmp, ordering_then}
 use Rattle.dg_values.specs.Order.{text_cmp, same_text, posting_cmp}
 use Rattle.dg_values.specs.Ascending.{Ascends, with_one, without_one}
 use Rattle.dg_values.specs.declared.kind.Kind.{Kind}

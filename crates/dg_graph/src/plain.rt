@@ -1,7 +1,9 @@
 // A graph in memory as a snapshot.
-use crate::{Graph, Snapshot};
+use crate::{Graph, Snapshot, found, indexed, numbers};
 use dg_schema::Schema;
-use dg_values::{Mem, Posting, Steps};
+use dg_tokens::IndexToken;
+use dg_uids::Uids;
+use dg_values::{Mem, Posting, Steps, Tokenizer, Value};
 use std::alloc::Global;
 use std::sync::ledger::Ledger;
 
@@ -32,5 +34,58 @@ impl Snapshot for Plain {
     ) -> Mem<Vec<Posting>> {
         reads.tick();
         self.graph.objects(alloc, p, s)
+    }
+
+    fn subjects<L: Ledger>(
+        &self,
+        alloc: Global,
+        p: &str,
+        o: u64,
+        reads: &mut Steps<L>,
+    ) -> Mem<Uids> {
+        reads.tick();
+        found::subjects(alloc, self.graph.triples(), p, o)
+    }
+
+    fn by_token<L: Ledger>(
+        &self,
+        alloc: Global,
+        p: &str,
+        t: &IndexToken,
+        reads: &mut Steps<L>,
+    ) -> Mem<Uids> {
+        reads.tick();
+        indexed::by_token(alloc, self.graph.triples(), p, t)
+    }
+
+    fn by_token_range<L: Ledger>(
+        &self,
+        alloc: Global,
+        p: &str,
+        tokenizer: Tokenizer,
+        low: Option<&Value>,
+        high: Option<&Value>,
+        reads: &mut Steps<L>,
+    ) -> Mem<Uids> {
+        reads.tick();
+        indexed::by_token_range(alloc, self.graph.triples(), p, tokenizer, low, high)
+    }
+
+    fn holders<L: Ledger>(&self, alloc: Global, p: &str, reads: &mut Steps<L>) -> Mem<Uids> {
+        reads.tick();
+        found::holders(alloc, self.graph.triples(), p)
+    }
+
+    fn by_count<L: Ledger>(
+        &self,
+        alloc: Global,
+        p: &str,
+        reverse: bool,
+        low: u64,
+        high: u64,
+        reads: &mut Steps<L>,
+    ) -> Mem<Uids> {
+        reads.tick();
+        numbers::by_count(alloc, &self.graph, p, reverse, low, high)
     }
 }

@@ -1,2 +1,7 @@
 -- Lemmas on keys.
 pub mod Ascents
+pub mod ByteOrder
+pub mod Carried
+pub mod Digits
+pub mod Pushed
+pub mod Spelled

@@ -2,4 +2,6 @@
 pub mod Keys
 pub mod Conflicts
 pub mod KeyOrder
+pub mod KeyBytes
+pub mod KeyReading
 pub mod Tablets

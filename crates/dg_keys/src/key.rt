@@ -55,7 +55,7 @@ impl Key {
     }
 
     // The place of the kind among the kinds.
-    fn rank(&self) -> u8
+    pub(crate) fn rank(&self) -> u8
         ensures { result ≡ kind_rank self.now }
     {
         match self {

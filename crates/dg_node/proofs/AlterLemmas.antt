@@ -10,7 +10,6 @@ use Rattle.dg_schema.specs.declared.definition.PredDef.{PredDef}
 use Rattle.dg_schema.specs.Definitions.{definition_of}
 use Rattle.dg_graph.specs.declared.change.Triple.{Triple}
 use Rattle.dg_graph.specs.Graphs.{is_of}
-use Rattle.dg_edges.specs.Deltas.{IsPlain, IsPlainDefinition}
 use Rattle.dg_oracle.specs.Commits as oracle
 use Rattle.dg_zero.specs.declared.tablets.Phase.TheVariants.{Idle}
 use Rattle.dg_zero.specs.declared.tablets.Place.{Place}
@@ -23,7 +22,7 @@ use Rattle.dg_zero.proofs.AlterKeeps.{none_first_held}
 use Rattle.dg_zero.proofs.LawsOfHistories.{line_stays_below, present_is_last}
 use Rattle.dg_zero.proofs.Refusals.{not_held}
 use Rattle.dg_node.specs.declared.engine.Opened.{Opened}
-use Rattle.dg_node.specs.Alters.{has_directive, is_other_kind, has_data, first_with_data, present_schema, present_graph, least_start}
+use Rattle.dg_node.specs.Alters.{is_other_kind, has_data, first_with_data, present_schema, present_graph, least_start}
 use Rattle.dg_node.specs.Kept.{IsKept}
 use Rattle.dg_node.specs.Machine.{Machine, Session}
 use Rattle.dg_node.specs.Schemas.{Alter, schema_at}
@@ -47,19 +46,6 @@ none_left [] e = refl
 none_left (t ∷ ts) e =
     let some : nat_lt 0 (length (t ∷ ts)) ≡ true = grind (arith, common_steps) in
     absurd (true≢false (sym some ∙ e))
-
-plain_one : (d : PredDef) → has_directive d ≡ false → IsPlainDefinition d
-plain_one d e =
-    let flags = or_second (nat_lt 0 (length d.tokens)) (d.reverse || (d.count || d.upsert)) e in (
-      none_left d.tokens (or_first (nat_lt 0 (length d.tokens)) (d.reverse || (d.count || d.upsert)) e),
-      or_first d.reverse (d.count || d.upsert) flags,
-      or_first d.count d.upsert (or_second d.reverse (d.count || d.upsert) flags),
-    )
-
-pub plain_all : (ds : List PredDef) → list_any has_directive ds ≡ false → IsPlain ds
-plain_all [] e = tt
-plain_all (d ∷ ds) e =
-    (plain_one d (or_first (has_directive d) (list_any has_directive ds) e), plain_all ds (or_second (has_directive d) (list_any has_directive ds) e))
 
 -- ---- where no data stands in the way, kinds are kept
 
@@ -114,7 +100,7 @@ not_among start low (x ∷ xs) le a =
     let other : (x == start) ≡ false = grind (arith, common_steps, le, a.0) in
     rw other (not_among start x xs (omega (arith, le, a.0)) a.1)
 
-pub first_is : (start x low : ℕ) (xs : List ℕ) → start ≤ x → oracle.Ascends low (x ∷ xs) → oracle.is_active (x ∷ xs) start ≡ true → x ≡ start
+first_is : (start x low : ℕ) (xs : List ℕ) → start ≤ x → oracle.Ascends low (x ∷ xs) → oracle.is_active (x ∷ xs) start ≡ true → x ≡ start
 first_is start x low xs le a found = by (x == start) refl found
   where
     by : (v : Bool) → (x == start) ≡ v → (v || oracle.is_active xs start) ≡ true → x ≡ start

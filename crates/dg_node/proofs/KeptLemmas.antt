@@ -8,7 +8,7 @@ use Rattle.dg_schema.specs.declared.definition.PredDef.{PredDef}
 use Rattle.dg_schema.specs.Definitions.{with_definitions}
 use Rattle.dg_keys.specs.declared.record.Part.{Part}
 use Rattle.dg_keys.specs.declared.record.Tablet.{Tablet}
-use Rattle.dg_edges.specs.Deltas.{AreFitting, IsPlain}
+use Rattle.dg_edges.specs.Deltas.{AreFitting}
 use Rattle.dg_oracle.specs.Commits as oracle
 use Rattle.dg_zero.specs.declared.entry.Entry.{Entry}
 use Rattle.dg_zero.specs.declared.entry.Event.{Event}
@@ -28,7 +28,6 @@ use Rattle.dg_node.specs.Kept.{started, AreApart, IsOpened, IsKept}
 use Rattle.dg_oracle.proofs.Oracles.{all_push}
 use Rattle.dg_node.proofs.OneAmong.{all_around, all_joined, apart_without, apart_push, apart_with, apart_ascending, without}
 use Rattle.dg_node.proofs.MachineLemmas.{all_from}
-use Rattle.dg_edges.proofs.PlainAlters.{plain_joined}
 
 schema_same : (h : List Entry) (author : ℕ) (event : Event) → IsStill event → schema (and_entry h author event) ≡ schema h
 schema_same h author event s = ap (λ (w : World). w.schema) (world_push h (record { author = author; event = event })) ∙ s.schema_stays (world h)
@@ -58,7 +57,6 @@ from_each : (z : Zero) (os ps : List Opened) (author : ℕ) (event : Event) → 
 from_each z os ps author event k s legal active_are apart each = record {
   legal = legal;
   idle = subst (λ (ts : List Place). AllByRecursion (λ (t : Place). t.phase ≡ Idle) ts) (sym (tablets_same z.history author event s)) k.idle;
-  plain = subst IsPlain (sym (schema_same z.history author event s)) k.plain;
   active_are = active_are;
   apart = apart;
   each = each;
@@ -168,7 +166,6 @@ changed_kept z os before after o p k e sid start is =
     record {
       legal = k.legal;
       idle = k.idle;
-      plain = k.plain;
       active_are = k.active_are ∙ (ap (map started) e ∙ sym (same before));
       apart = apart_with (λ (q : Opened). q.sid) before after o p sid (subst (λ (l : List Opened). AreApart (λ (q : Opened). q.sid) l) e k.apart);
       each = all_joined (IsOpened z.history) before (p ∷ after) each.0 (is, each.2);
@@ -197,17 +194,15 @@ none_left (o ∷ os) e = absurd (cc)
 pub none_open : (z : Zero) (os : List Opened) → IsKept z os → active z.history ≡ [] → os ≡ []
 none_open z os k e = none_left os (sym k.active_are ∙ e)
 
-pub altered_kept : (z : Zero) (os : List Opened) (newer : List PredDef) (parts : List Part) → IsKept z os → active z.history ≡ [] → IsPlain newer → IsLegal z.groups (and_entry z.history 0 (alter_of z newer parts)) → IsKept (and_then z 0 (alter_of z newer parts)) os
-altered_kept z os newer parts k none plain legal =
+pub altered_kept : (z : Zero) (os : List Opened) (newer : List PredDef) (parts : List Part) → IsKept z os → active z.history ≡ [] → IsLegal z.groups (and_entry z.history 0 (alter_of z newer parts)) → IsKept (and_then z 0 (alter_of z newer parts)) os
+altered_kept z os newer parts k none legal =
     let event : Event = alter_of z newer parts in
     let e : Entry = record { author = 0; event = event } in
     let no : os ≡ [] = none_open z os k none in
-    let schema_is : schema (and_entry z.history 0 event) ≡ with_definitions (schema z.history) newer = ap (λ (w : World). w.schema) (world_push z.history e) in
     let tablets_are : tablets (and_entry z.history 0 event) ≡ tablets z.history ++ map fresh_place (fresh z.groups (tablets z.history) newer) = ap (λ (p : Places). p.tablets) (places_push z.history e) in
     record {
       legal = legal;
       idle = subst (λ (ts : List Place). AllByRecursion (λ (t : Place). t.phase ≡ Idle) ts) (sym tablets_are) (fresh_idle (tablets z.history) (fresh z.groups (tablets z.history) newer) k.idle);
-      plain = subst IsPlain (sym schema_is) (plain_joined (schema z.history) newer k.plain plain);
       active_are = active_push z.history e ∙ k.active_are;
       apart = k.apart;
       each = subst (λ (l : List Opened). AllByRecursion (IsOpened (and_entry z.history 0 event)) l) (sym no) tt;

@@ -12,7 +12,7 @@ use Rattle.dg_wire.specs.declared.reply.Reply.TheVariants as replies
 use Rattle.dg_zero.specs.States.{Zero}
 use Rattle.dg_node.specs.declared.engine.Opened.{Opened}
 use Rattle.dg_node.specs.Machine.{Machine, Session, session_of, is_open, with_session, without_session, drawn}
-use Rattle.dg_node.specs.Alters.{has_directive, least_start, first_with_data, present_schema, present_graph, declared, declared_unless, altered}
+use Rattle.dg_node.specs.Alters.{least_start, first_with_data, present_schema, present_graph, declared, declared_unless, altered}
 use Rattle.dg_node.specs.Transactions.{begun, committed, committed_with, committed_unless, clash_of, with_commit, discarded}
 use Rattle.dg_node.specs.Queries.{queried, answered, answer_in}
 use Rattle.dg_node.specs.Kept.{IsKept}
@@ -116,14 +116,11 @@ module _ (m : Machine) (newer : List PredDef) where
       let late : nat_lt (m.next + 1) (2 ^ 62) ≡ false = grind (arith, common_steps) in
       rw (late, e) refl
 
-  pub alter_unbuilt : list_any has_directive newer ≡ true → ◌≡◌ {A = Pair} (altered m newer) (replies.Refused refusals.Unbuilt, m)
-  alter_unbuilt some = rw some refl
+  pub alter_pending : (start : ℕ) → least_start m.sessions ≡ Some start → ◌≡◌ {A = Pair} (altered m newer) (replies.Refused (refusals.Pending start), m)
+  alter_pending start some = rw some refl
 
-  pub alter_pending : (start : ℕ) → list_any has_directive newer ≡ false → least_start m.sessions ≡ Some start → ◌≡◌ {A = Pair} (altered m newer) (replies.Refused (refusals.Pending start), m)
-  alter_pending start plain some = rw (plain, some) refl
+  pub alter_has_data : (name : List ℕ) → least_start m.sessions ≡ None → first_with_data (present_schema m) (present_graph m) newer ≡ Some name → ◌≡◌ {A = Pair} (altered m newer) (replies.Refused (refusals.HasData name), m)
+  alter_has_data name none found = rw none (ap (λ (o : Option (List ℕ)). declared_unless m newer o) found)
 
-  pub alter_has_data : (name : List ℕ) → list_any has_directive newer ≡ false → least_start m.sessions ≡ None → first_with_data (present_schema m) (present_graph m) newer ≡ Some name → ◌≡◌ {A = Pair} (altered m newer) (replies.Refused (refusals.HasData name), m)
-  alter_has_data name plain none found = rw (plain, none) (ap (λ (o : Option (List ℕ)). declared_unless m newer o) found)
-
-  pub altered_is : list_any has_directive newer ≡ false → least_start m.sessions ≡ None → first_with_data (present_schema m) (present_graph m) newer ≡ None → ◌≡◌ {A = Pair} (altered m newer) (declared m newer)
-  altered_is plain none free = rw (plain, none) (ap (λ (o : Option (List ℕ)). declared_unless m newer o) free)
+  pub altered_is : least_start m.sessions ≡ None → first_with_data (present_schema m) (present_graph m) newer ≡ None → ◌≡◌ {A = Pair} (altered m newer) (declared m newer)
+  altered_is none free = rw none (ap (λ (o : Option (List ℕ)). declared_unless m newer o) free)

@@ -10,7 +10,7 @@ use Rattle.dg_graph.specs.Graphs.{after_changes, fits, IsLawful}
 use Rattle.dg_graph.specs.Changes.{changed as of_change}
 use Rattle.dg_graph.proofs.GraphLaws.{stays_lawful}
 use Rattle.dg_keys.specs.declared.record.Tablet.{Tablet}
-use Rattle.dg_edges.specs.Deltas.{AreFitting, IsPlain}
+use Rattle.dg_edges.specs.Deltas.{AreFitting}
 use Rattle.dg_edges.proofs.OfferLaws.{all_fit}
 use Rattle.dg_zero.specs.declared.entry.Entry.{Entry}
 use Rattle.dg_zero.specs.Worlds.{schema, schema_at, graph_at}
@@ -47,7 +47,7 @@ use Rattle.dg_node.proofs.CommitLemmas.{look_quiet, lease_quiet, begin_quiet, en
 
 -- nothing happens
 pub stand_look : (z : Zero) (os : List Opened) (m : Machine) (author : ℕ) → StandFor z os m → StandFor (and_then z author Look) os m
-stand_look z os m author s = stand_quiet z (map session_from os) m s author Look (map session_from os) m.sessions m.next m.next_uid look_quiet (omega arith) refl s.sessions_are
+stand_look z os m author s = stand_quiet z os m s author Look os m.sessions m.next m.next_uid look_quiet (omega arith) refl s.sessions_are
 
 -- a session without a transaction
 pub none_open_here : (os : List Opened) (m : Machine) (sid : ℕ) → m.sessions ≡ map session_from os → position (λ o. o.sid == sid) os ≡ None → session_of m sid ≡ None
@@ -83,11 +83,11 @@ module _ (z : Zero) (os : List Opened) (k : IsKept z os) (sid place : ℕ) (a : 
   -- its transaction ends without its changes
   pub stand_ended : (m : Machine) (author : ℕ) (event : Event) → StandFor z os m → IsQuiet event → drawn event ≡ 0 → next_uid_after m.next_uid event ≡ m.next_uid → StandFor (and_then z author event) (remove os place) (without_session m sid)
   stand_ended m author event s q d u =
-      stand_quiet z (map session_from os) m s author event (map session_from (remove os place)) (filter (λ (session : Session). not (session.sid == sid)) m.sessions) m.next m.next_uid q (omega (arith, d)) (sym u) (others m s)
+      stand_quiet z os m s author event (remove os place) (filter (λ (session : Session). not (session.sid == sid)) m.sessions) m.next m.next_uid q (omega (arith, d)) (sym u) (others m s)
 
   -- and with them
-  pub stand_committed : (m : Machine) (offer : Offer) (ts : ℕ) → (s : StandFor z os m) → ts ≡ next z.history → IsCommittedAs z (map session_from os) m s 0 a.it.txn.start a.it.txn.own offer → StandFor (and_then z 0 (commit_of offer ts)) (remove os place) (without_session (machines.drawn (with_commit m (session_from a.it)) (m.next + 1)) sid)
-  stand_committed m offer ts s is alts = stand_commit z (map session_from os) m s 0 offer ts a.it.txn.start a.it.txn.own (map session_from (remove os place)) (filter (λ (session : Session). not (session.sid == sid)) m.sessions) is alts (others m s)
+  pub stand_committed : (m : Machine) (offer : Offer) (ts : ℕ) → (s : StandFor z os m) → ts ≡ next z.history → IsCommittedAs z os m s 0 a.it.txn.start a.it.txn.own offer → StandFor (and_then z 0 (commit_of offer ts)) (remove os place) (without_session (machines.drawn (with_commit m (session_from a.it)) (m.next + 1)) sid)
+  stand_committed m offer ts s is alts = stand_commit z os m s 0 offer ts a.it.txn.start a.it.txn.own (remove os place) (filter (λ (session : Session). not (session.sid == sid)) m.sessions) is alts (others m s)
 
   pub removed_kept : (author : ℕ) (event : Event) → Ends event a.it.txn.start → IsLegal z.groups (and_entry z.history author event) → IsKept (and_then z author event) (remove os place)
   removed_kept author event e legal =
@@ -123,7 +123,7 @@ stand_begun z w os m sid author s author_is is =
     let then = sym one in
     let all : m.sessions ++ (record { sid = sid; start = m.next; own = [] }) ∷ [] ≡ map session_from (os ++ o ∷ []) = (λ i. s.sessions_are i ++ then i ∷ []) ∙ sym (map-append session_from os (o ∷ [])) in
     subst (λ (y : Zero). StandFor y (os ++ o ∷ []) (with_session (machines.drawn m (m.next + 1)) sid m.next)) (sym e)
-    (stand_quiet z (map session_from os) m s 0 (Begin (next z.history)) (map session_from (os ++ o ∷ [])) (m.sessions ++ (record { sid = sid; start = m.next; own = [] }) ∷ []) (m.next + 1) m.next_uid (begin_quiet (next z.history)) (omega arith) refl all)
+    (stand_quiet z os m s 0 (Begin (next z.history)) (os ++ o ∷ []) (m.sessions ++ (record { sid = sid; start = m.next; own = [] }) ∷ []) (m.next + 1) m.next_uid (begin_quiet (next z.history)) (omega arith) refl all)
 
 -- what is pinned at a begin, by what it hands out
 pub pins_there : (h : List Entry) (start : ℕ) (declared : List PredDef) (owned : List Tablet) (pins : List Group) → start ≡ next h → declared ≡ schema h → owned ≡ owners h → ArePinsOf (next h) (schema h) (owners h) pins (graph_at h (next h) []) → ArePinsOf start declared owned pins (graph_at h (next h) [])
@@ -153,9 +153,9 @@ pub unopened_stands : (z w v : Zero) (os : List Opened) (m : Machine) (author be
 unopened_stands z w v os m author begun start s is ended =
     let one : StandFor w os (machines.drawn m (m.next + 1)) =
     subst (λ (y : Zero). StandFor y os (machines.drawn m (m.next + 1))) (sym is)
-    (stand_quiet z (map session_from os) m s author (Begin begun) (map session_from os) m.sessions (m.next + 1) m.next_uid (begin_quiet begun) (omega arith) refl s.sessions_are) in
+    (stand_quiet z os m s author (Begin begun) os m.sessions (m.next + 1) m.next_uid (begin_quiet begun) (omega arith) refl s.sessions_are) in
     subst (λ (y : Zero). StandFor y os (machines.drawn m (m.next + 1))) (sym ended)
-    (stand_quiet w (map session_from os) (machines.drawn m (m.next + 1)) one 0 (End start) (map session_from os) m.sessions (m.next + 1) m.next_uid (end_quiet start) (omega arith) refl one.sessions_are)
+    (stand_quiet w os (machines.drawn m (m.next + 1)) one 0 (End start) os m.sessions (m.next + 1) m.next_uid (end_quiet start) (omega arith) refl one.sessions_are)
 
 -- ---- the transaction at a place ends without its changes
 
@@ -210,7 +210,7 @@ leased_kept z w os top count first k e legal = subst (λ (y : Zero). IsKept y os
 pub leased_stand : (z w : Zero) (os : List Opened) (m : Machine) (top count first : ℕ) → w ≡ and_then z 0 (Lease top count first) → StandFor z os m → StandFor w os (leased_upto m (first + count))
 leased_stand z w os m top count first e s =
     subst (λ (y : Zero). StandFor y os (leased_upto m (first + count))) (sym e)
-    (stand_quiet z (map session_from os) m s 0 (Lease top count first) (map session_from os) m.sessions m.next (first + count) (lease_quiet top count first) (omega arith) refl s.sessions_are)
+    (stand_quiet z os m s 0 (Lease top count first) os m.sessions m.next (first + count) (lease_quiet top count first) (omega arith) refl s.sessions_are)
 
 -- ---- the transaction at a place has more changes
 
@@ -224,9 +224,6 @@ module _ (z : Zero) (os : List Opened) (k : IsKept z os) (sid place : ℕ) (a : 
 
   pub it_opened : IsOpened z.history d
   it_opened = subst (IsOpened z.history) (sym it) (opened_here z os a.before a.after a.it k a.whole)
-
-  pub plain_there : IsPlain d.txn.schema
-  plain_there = subst IsPlain (sym it_opened.schema_is) k.plain
 
   now_opened : AreFitting d.txn.schema changes → IsOpened z.history grown_one
   now_opened fit =

@@ -6,7 +6,6 @@ use Rattle.dg_zero.specs.States.{Zero}
 use Rattle.dg_zero.specs.Worlds.{World}
 use Rattle.dg_zero.proofs.Kept.{none_active}
 use Rattle.dg_zero.proofs.SpentTimestamps.{none_spent, world_at_spent, oracle_at, spent_keeps}
-use Rattle.dg_edges.specs.Deltas.{IsPlain}
 use Rattle.dg_node.specs.declared.engine.Opened.{Opened}
 use Rattle.dg_node.specs.Kept.{IsKept}
 use Rattle.dg_node.specs.Machine.{empty_from}
@@ -41,7 +40,6 @@ module _ (groups : ℕ) (some : 1 ≤ groups) (n : ℕ) (lt : n < 2 ^ 62) where
       record {
         legal = kept.legal;
         idle = kept.idle;
-        plain = subst IsPlain kept.schema_is tt;
         active_are = none_active groups (oracle_at (suc n)) 1 [] [] [] (spent n) 0 kept refl;
         apart = tt;
         each = tt;

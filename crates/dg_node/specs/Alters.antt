@@ -18,10 +18,6 @@ use Rattle.dg_node.specs.Machine.{Machine, Session, TIMESTAMP_END}
 use Rattle.dg_node.specs.Replying.{refused}
 use Rattle.dg_node.specs.Texts.{by_text}
 
--- the definition has a directive
-abbrev pub has_directive : PredDef → Bool
-has_directive def = nat_lt 0 (length def.tokens) || (def.reverse || (def.count || def.upsert))
-
 -- the least start of open transactions, where there are any
 abbrev pub least_start : List Session → Option ℕ
 least_start [] = None
@@ -64,11 +60,9 @@ abbrev pub altered_beside : Machine → List PredDef → Option ℕ → Reply ×
 altered_beside machine definitions (Some start) = refused machine (refusals.Pending start)
 altered_beside machine definitions None = declared_unless machine definitions (first_with_data (present_schema machine) (present_graph machine) definitions)
 
--- what an alter with these definitions is answered and leaves; directives aren't built
+-- what an alter with these definitions is answered and leaves
 abbrev pub altered : Machine → List PredDef → Reply × Machine
-altered machine definitions =
-    if list_any has_directive definitions then refused machine refusals.Unbuilt
-    else altered_beside machine definitions (least_start machine.sessions)
+altered machine definitions = altered_beside machine definitions (least_start machine.sessions)
 
 -- the same for what is read of a text: its definitions, or the line of its fault
 abbrev pub altered_by : Machine → Result (List PredDef) ℕ → Reply × Machine

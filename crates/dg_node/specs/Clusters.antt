@@ -4,7 +4,6 @@ use Rattle.std.specs.Arc.{arc_value}
 use Rattle.std.specs.List.{AllByRecursion}
 use Rattle.std.specs.declared.alloc.Global.{Global}
 use Rattle.dg_schema.specs.declared.definition.PredDef.{PredDef}
-use Rattle.dg_edges.specs.Deltas.{IsPlain}
 use Rattle.dg_keys.specs.declared.record.Part.{Part}
 use Rattle.dg_oracle.specs.Commits.{is_active}
 use Rattle.dg_zero.specs.declared.entry.Entry.{Entry}
@@ -46,13 +45,12 @@ IsBeginFault history faults.OutOfMemory = Unit {0}
 IsBeginFault history (faults.TimestampsSpent spent) = (spent ≡ next history) × (next history ≡ 2 ^ 62)
 IsBeginFault history fault = ⊥
 
--- a begin draws a start, with pins that hold the graph there; no predicate has a directive yet. A refused one appends a look
+-- a begin draws a start, with pins that hold the graph there. A refused one appends a look
 pub record BeginsAt (slip : ℕ) (result : Result (Begun × Vec Group Global) ClusterFault) (met after : Zero) : Type 0 where
   pub start : IfOk result (λ b. b.0.start ≡ next met.history)
   pub schema_is : IfOk result (λ b. arc_value b.0.schema ≡ schema met.history)
   pub owners_are : IfOk result (λ b. arc_value b.0.owners ≡ owners met.history)
   pub pins : IfOk result (λ b. ArePinsOf (next met.history) (schema met.history) (owners met.history) b.1.items (graph_at met.history (next met.history) []))
-  pub plain : OnOk result (IsPlain (schema met.history))
   pub ok : OnOk result (after ≡ and_then met slip (events.Begin (next met.history)))
   pub not_spent : OnOk result (next met.history < 2 ^ 62)
   pub fault : IfErr result (IsBeginFault met.history)

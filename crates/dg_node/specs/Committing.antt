@@ -9,7 +9,6 @@ use Rattle.dg_zero.specs.declared.entry.Entry.{Entry}
 use Rattle.dg_zero.specs.declared.offer.Offer.{Offer}
 use Rattle.dg_zero.specs.Offers.{IsSound, IsMadeOf}
 use Rattle.dg_zero.specs.Worlds.{schema_at, graph_at}
-use Rattle.dg_txn.specs.Own.{Transaction}
 use Rattle.dg_node.specs.declared.engine.Opened.{Opened}
 
 -- the offer has the start and the changes of an open transaction, is made of them, and is sound
@@ -18,13 +17,6 @@ pub record IsOfferOf (history : List Entry) (o : Opened) (offer : Offer) : Type 
   pub changes_are : offer.changes ≡ o.txn.own
   pub made_of : IsMadeOf (schema_at history o.txn.start) (graph_at history o.txn.start []) offer.changes offer.keys offer.parts
   pub sound : IsSound (schema_at history o.txn.start) (graph_at history o.txn.start []) offer.preds offer.keys offer.parts
-
--- the same of a transaction
-pub record IsOfferBy (history : List Entry) (txn : Transaction) (offer : Offer) : Type 0 where
-  pub start_is : offer.start ≡ txn.start
-  pub changes_are : offer.changes ≡ txn.own
-  pub made_of : IsMadeOf (schema_at history txn.start) (graph_at history txn.start []) offer.changes offer.keys offer.parts
-  pub sound : IsSound (schema_at history txn.start) (graph_at history txn.start []) offer.preds offer.keys offer.parts
 
 -- the text of the key that a verdict names, and none where it names none
 abbrev pub clash_text : List ConflictKey → Verdict → List ℕ

@@ -9,7 +9,7 @@ use Rattle.dg_zero.specs.Legal.{IsLegal}
 use Rattle.dg_zero.specs.Places.{tablets}
 use Rattle.dg_zero.specs.States.{Zero}
 use Rattle.dg_zero.specs.Worlds.{schema, graph_at}
-use Rattle.dg_edges.specs.Deltas.{AreFitting, IsPlain}
+use Rattle.dg_edges.specs.Deltas.{AreFitting}
 use Rattle.dg_node.specs.declared.engine.Opened.{Opened}
 
 -- what the engine is seen as: Zero's state, and the open transactions in the order in which they began
@@ -34,11 +34,10 @@ pub record IsOpened (history : List Entry) (o : Opened) : Type 0 where
   pub fitting : AreFitting (schema history) o.txn.own
   pub author : o.txn.author ≡ 0
 
--- nothing is moved, no predicate has an index, a reverse or a count, and the open transactions are the active ones
+-- nothing is moved, and the open transactions are the active ones
 pub record IsKept (zero : Zero) (opened : List Opened) : Type 0 where
   pub legal : IsLegal zero.groups zero.history
   pub idle : AllByRecursion (λ (t : Place). t.phase ≡ Idle) (tablets zero.history)
-  pub plain : IsPlain (schema zero.history)
   pub active_are : active zero.history ≡ map started opened
   pub apart : AreApart (λ o. o.sid) opened
   pub each : AllByRecursion (IsOpened zero.history) opened

@@ -1,14 +1,12 @@
 -- Groups beside the state that coordinates them.
 use Rattle.std.specs.Prelude.{◌≡◌, ℕ, ◌≤◌, List, [], map}
 use Rattle.std.specs.List.{AllByRecursion}
-use Rattle.dg_edges.specs.Deltas.{IsPlain}
 use Rattle.dg_zero.specs.Legal.{IsLegal}
 use Rattle.dg_zero.specs.declared.entry.Entry.{Entry}
 use Rattle.dg_zero.specs.declared.tablets.Phase.TheVariants.{Idle}
 use Rattle.dg_zero.specs.declared.tablets.Place.{Place}
 use Rattle.dg_zero.specs.Places.{groups, tablets}
 use Rattle.dg_zero.specs.States.{Zero}
-use Rattle.dg_zero.specs.Worlds.{schema_at}
 use Rattle.dg_group.specs.Groups.{Group}
 use Rattle.dg_group.specs.Stands.{IsInStep}
 
@@ -20,12 +18,11 @@ new_group number = record { number = number; last = 0; copies = [] }
 abbrev pub AreAtRest : List Entry → Type 0
 AreAtRest history = AllByRecursion (λ (t : Place). t.phase ≡ Idle) (tablets history)
 
--- the history is legal, no tablet is being moved, no definition at any timestamp has index, reverse or count, and the groups have
--- the numbers from 1 to n and are in step with the history
+-- the history is legal, no tablet is being moved, and the groups have the numbers from 1 to n and are in step with the
+-- history
 pub record IsOwned (zero : Zero) (gs : List Group) : Type 0 where
   pub least : 1 ≤ zero.groups
   pub legal : IsLegal zero.groups zero.history
   pub idle : AreAtRest zero.history
-  pub plain : (at : ℕ) → IsPlain (schema_at zero.history at)
   pub numbers : map (λ (g : Group). g.number) gs ≡ groups zero.groups
   pub in_step : AllByRecursion (λ g. IsInStep g zero.history) gs

@@ -78,7 +78,6 @@ impl From<ZeroFault> for ClusterFault {
 /// appends a look. After want of memory some groups may have come further.
 pub trait Cluster {
     ghost use Rattle.std.specs.Prelude.{◌≡◌, ◌<◌, ℕ, Bool, true, []};
-    ghost use Rattle.dg_edges.specs.Deltas.{IsPlain};
     ghost use Rattle.dg_oracle.specs.Commits.{is_active};
     ghost use Rattle.dg_schema.specs.Definitions.{is_declared};
     ghost use Rattle.dg_zero.specs.Counters.{next, active, starts_of, is_active_of};
@@ -134,7 +133,8 @@ pub trait Cluster {
         ensures ends { Meets (takes self.old) (zero self.old) (zero self.new) (EndsAt slip start result) }
         ensures legal { IsLegal (zero self.new).groups (zero self.new).history };
 
-    /// Adds or replaces definitions without index, reverse and count at two new timestamps, and answers both.
+    /// Adds or replaces definitions at two new timestamps, and answers both. Lists of index, reverse and count are built or dropped
+    /// with the definitions.
     ///
     /// `Pending` names the least active start where there is one; else `Moving` names the first predicate of the definitions
     /// whose tablet is held; else `HasData` names the first that has a triple and would change its kind, or whether it is a
@@ -147,7 +147,6 @@ pub trait Cluster {
     ) -> Result<(u64, u64), ClusterFault>
         requires own { takes self.old slip ≡ true }
         requires author { slip ≡ 0 }
-        requires plain { IsPlain newer.now }
         ensures same { takes self.new ≡ takes self.old }
         ensures alters { Meets (takes self.old) (zero self.old) (zero self.new) (AltersAt slip newer.now result) }
         ensures legal { IsLegal (zero self.new).groups (zero self.new).history };

@@ -43,7 +43,11 @@ fn has_data<L: Ledger>(
 
 /// The first predicate, in the order of the definitions, that has a triple and would change its kind, or whether it is a list.
 /// The error is want of memory.
-pub fn first_with_data(alloc: Global, present: &Present, definitions: &[PredDef]) -> Mem<Option<Str>>
+pub fn first_with_data(
+    alloc: Global,
+    present: &Present,
+    definitions: &[PredDef],
+) -> Mem<Option<Str>>
     ensures { IfOk result (λ found. found ≡ first_with_data present.now.schema present.now.graph definitions.now) }
 {
     first_in::<Brand>(alloc, present, definitions, Blank::new(1))

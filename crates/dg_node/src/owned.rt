@@ -1,11 +1,13 @@
 // The state that coordinates all, and the groups that follow it.
 ghost use Rattle.std.specs.Prelude.{◌≡◌, ◌+◌, ◌-◌, ◌^◌, ◌<◌, ◌≤◌, [], true, None, Some, IfOk, IfErr, OnOk, OnErr, if◌then◌else◌};
 ghost use Rattle.std.specs.Arc.{arc_value};
-ghost use Rattle.dg_edges.specs.Deltas.{IsPlain};
+ghost use Rattle.dg_graph.specs.Graphs.{IsLawful};
 ghost use Rattle.dg_oracle.specs.Commits.{is_active};
+ghost use Rattle.dg_schema.specs.Definitions.{with_definitions};
 ghost use Rattle.dg_txn.specs.Pins.{ArePinsOf};
 ghost use Rattle.dg_zero.specs.Counters.{next, next_uid, leased, active, starts_of, is_active_of};
 ghost use Rattle.dg_zero.specs.Legal.{IsLegal};
+ghost use Rattle.dg_zero.specs.Listings.{AreGainsAndLosses};
 ghost use Rattle.dg_zero.specs.Offers.{IsSound, IsMadeOf};
 ghost use Rattle.dg_zero.specs.Pasts.{spent};
 ghost use Rattle.dg_zero.specs.Places.{tablets};
@@ -13,24 +15,24 @@ ghost use Rattle.dg_zero.specs.States.{and_then, owners, alter_of, commit_of, fi
 ghost use Rattle.dg_zero.specs.Verdicts.{verdict};
 ghost use Rattle.dg_node.specs.Alters.{first_with_data};
 ghost use Rattle.dg_node.specs.Clusters.{Meets, EndsAt, IsAlterFault as IsHindrance};
-ghost use Rattle.dg_node.specs.Owning.{AreAtRest};
 ghost use Rattle.dg_zero.specs.Worlds.{world, schema, schema_at, graph_at};
 
 use crate::cluster::{Cluster, ClusterFault};
 use crate::current::{new_groups, pinned};
 use crate::obstacles::first_with_data;
+use dg_edges::schema_deltas;
 use dg_group::{GroupState, Pinned, entries_of_histories};
 use dg_keys::Part;
 use dg_schema::Schema;
 use dg_txn::Present;
-use dg_values::{List, Mem, OutOfMemory};
+use dg_values::{List, Mem, OutOfMemory, Steps};
 use dg_zero::{Begun, CommitFault, Event, Offer, Slip, ZeroFault, ZeroState};
 use std::alloc::Global;
-use std::marker::Model;
+use std::marker::{Brand, Model};
 use std::sync::Arc;
+use std::sync::ledger::{Blank, Ledger};
 
-/// The state that coordinates all, and the groups, each of which agrees with its history. Contracts see the state. No
-/// definition has index, reverse or count.
+/// The state that coordinates all, and the groups, each of which agrees with its history. Contracts see the state.
 #[derive(Drop)]
 pub struct Owned {
     zero: ZeroState,
@@ -162,57 +164,11 @@ impl Owned {
     {
         self.zero.commit(slip, offer)
     }
-
-    /// Adds or replaces definitions without index, reverse and count at two new timestamps, and answers both. It changes no
-    /// list.
-    ///
-    /// `Pending` names the least active start where there is one, `Moving` a predicate whose tablet is held, and
-    /// `TimestampsSpent` comes where two timestamps aren't left. After an error nothing has changed, and a look is appended.
-    pub fn alter(
-        &mut self,
-        alloc: Global,
-        slip: Slip,
-        newer: &Schema,
-    ) -> Result<(u64, u64), ZeroFault>
-        requires author { slip ≡ 0 }
-        requires plain { IsPlain newer.now }
-        requires kinds { KeepKinds self.old.history newer.now }
-        ensures drawn { IfOk result (λ drawn. (drawn.0 ≡ next self.old.history) × (drawn.1 ≡ next self.old.history + 1)) }
-        ensures ok { OnOk result (self.new ≡ and_then self.old slip (alter_of self.old newer.now [])) }
-        ensures none_active { OnOk result (active self.old.history ≡ []) }
-        ensures none_held { OnOk result (first_held (tablets self.old.history) newer.now ≡ None) }
-        ensures not_spent { OnOk result (next self.old.history + 1 < 2 ^ 62) }
-        ensures fault { IfErr result (IsAlterFault self.old.history newer.now) }
-        ensures err { OnErr result (self.new ≡ and_then self.old slip Event.Look) }
-        ensures legal { IsLegal self.new.groups self.new.history }
-    {
-        // An alter keeps the groups in step.
-        entries_of_histories();
-        self.zero.alter(slip, newer, List::new(alloc))
-    }
 }
 
 impl Owned {
-    /// The history is legal, and no tablet is being moved, since moves aren't built.
-    pub fn at_rest(&self)
-        ensures legal { IsLegal self.now.groups self.now.history }
-        ensures idle { AreAtRest self.now.history }
-    {
-        let _ = &self.zero;
-    }
-
-    // What lists gain and lose by definitions without index, reverse and count: nothing.
-    fn alter_parts(&self, alloc: Global, _newer: &Schema) -> Mem<List<Part>>
-        requires plain { IsPlain _newer.now }
-        ensures { IfOk result (AreAlterParts self.now.history _newer.now) }
-    {
-        let _ = &self.zero;
-        Ok(List::new(alloc))
-    }
-
     // What an alter writes, or why the definitions may not be added now. Nothing is appended.
     fn prepare(&mut self, alloc: Global, newer: &Schema) -> Result<List<Part>, ClusterFault>
-        requires plain { IsPlain newer.now }
         ensures same { self.new ≡ self.old }
         ensures parts { IfOk result (AreAlterParts self.old.history newer.now) }
         ensures no_data { OnOk result (first_with_data (schema self.old.history) (world self.old.history).graph newer.now ≡ None) }
@@ -225,8 +181,33 @@ impl Owned {
         if let Some(pred) = first_with_data(alloc, &present, newer.definitions())? {
             return Err(ClusterFault::HasData { pred });
         }
-        Ok(self.alter_parts(alloc, newer)?)
+        Ok(alter_parts(alloc, &present, newer)?)
     }
+}
+
+// What lists gain and lose in a graph where definitions are added or replaced.
+fn alter_parts(alloc: Global, present: &Present, newer: &Schema) -> Mem<List<Part>>
+    requires { IsLawful present.now.schema present.now.graph }
+    ensures { IfOk result (λ parts. AreGainsAndLosses present.now.schema present.now.graph (with_definitions present.now.schema newer.now) present.now.graph parts) }
+{
+    parts_in::<Brand>(alloc, present, newer, Blank::new(1))
+}
+
+// The same, on a ledger of its own for the lists that are read.
+fn parts_in<L: Ledger>(
+    alloc: Global,
+    present: &Present,
+    newer: &Schema,
+    blank: Blank,
+) -> Mem<List<Part>>
+    requires name { blank.name ≡ L.name }
+    requires parts { blank.parts ≡ L.parts }
+    requires some { 0 < blank.parts }
+    requires lawful { IsLawful present.now.schema present.now.graph }
+    ensures { IfOk result (λ parts. AreGainsAndLosses present.now.schema present.now.graph (with_definitions present.now.schema newer.now) present.now.graph parts) }
+{
+    let parts = schema_deltas(alloc, present, newer, &mut Steps::<L>::new(blank))?;
+    Ok(List::from_vec(parts))
 }
 
 /// It takes each author, and no one else appends.

@@ -1,22 +1,18 @@
 // What `begin`, `commit` and `discard` do.
-ghost use Rattle.std.specs.Prelude.{◌≡◌, ◌<◌, [], Bool, true, List, None, IfOk, OnOk, OnErr};
+ghost use Rattle.std.specs.Prelude.{◌≡◌, [], true, List, IfOk, OnOk, OnErr};
 ghost use Rattle.std.specs.Arc.{arc_value};
 ghost use Rattle.dg_values.specs.Ascending.{Ascends};
 ghost use Rattle.dg_graph.specs.declared.change.Triple.{Triple};
 ghost use Rattle.dg_keys.specs.Conflicts.{conflict_cmp};
 ghost use Rattle.dg_oracle.specs.Commits.{is_active};
 ghost use Rattle.dg_oracle.specs.Verdicts.{verdict};
-ghost use Rattle.dg_zero.specs.Counters.{next, active, starts_of, is_active_of};
+ghost use Rattle.dg_zero.specs.Counters.{active, starts_of, is_active_of};
 ghost use Rattle.dg_zero.specs.Legal.{IsLegal};
 ghost use Rattle.dg_zero.specs.States.{and_then};
 ghost use Rattle.dg_zero.specs.Verdicts.{commits};
 ghost use Rattle.dg_txn.specs.Pins.{ArePinsOf};
-ghost use Rattle.dg_node.specs.Clusters.{Meets, EndsAt};
 ghost use Rattle.dg_node.specs.Committing.{clash_text};
-ghost use Rattle.dg_node.specs.Sessions.{IsSession, Serves, SparesBegin};
-ghost use Rattle.dg_node.specs.Transactions.{begun, discarded};
 
-use crate::cluster::{Cluster, ClusterFault};
 use crate::engine::{Engine, Opened, no_session};
 use crate::owned::Owned;
 use dg_group::Pinned;
@@ -173,121 +169,4 @@ fn clash_text(alloc: Global, cluster: &Owned, offer: &Offer) -> Mem<Str>
         conflict_text(alloc, &mut text, &offer.keys.as_slice()[at])?;
     }
     Ok(text)
-}
-
-/// Opens a transaction of an author in a session that has none.
-///
-/// `SessionOpen` comes where it has one, and `TimestampsSpent` where no timestamp is left. After want of memory it has none;
-/// one start may be drawn, which isn't given back and has ended.
-pub fn begin<C: Cluster>(
-    alloc: Global,
-    cluster: &mut C,
-    session: &mut Option<Txn>,
-    author: u32,
-    sid: u32,
-) -> Mem<Reply>
-    requires own { C.takes cluster.old author ≡ true }
-    requires legal { IsLegal (C.zero cluster.old).groups (C.zero cluster.old).history }
-    requires session { IsSession (C.zero cluster.old) author session.old }
-    ensures same { C.takes cluster.new ≡ C.takes cluster.old }
-    ensures ok { IfOk result (λ reply. Meets (C.takes cluster.old) (C.zero cluster.old) (C.zero cluster.new) (Serves author sid session.old session.new (λ m n. begun m sid ≡ (reply, n)))) }
-    ensures err { OnErr result (SparesBegin (C.takes cluster.old) author sid (C.zero cluster.old) (C.zero cluster.new)) }
-    ensures none { OnErr result ((session.old ≡ None) × (session.new ≡ None)) }
-    ensures session { IsSession (C.zero cluster.new) author session.new }
-    ensures legal { IsLegal (C.zero cluster.new).groups (C.zero cluster.new).history }
-{
-    if session.is_some() {
-        return Ok(Reply::Refused(Refusal::SessionOpen { sid }));
-    }
-    let slip = Slip::new(alloc, author)?;
-    let end = Slip::new(alloc, author)?;
-    match cluster.begin(alloc, slip) {
-        Ok((begun, pins)) => {
-            let start = begun.start;
-            *session = Some(make(alloc, cluster, begun, pins, end)?);
-            Ok(Reply::Begin { sid, start })
-        }
-        Err(ClusterFault::TimestampsSpent { next }) => {
-            Ok(Reply::Refused(Refusal::TimestampsSpent { next }))
-        }
-        Err(ClusterFault::OutOfMemory) => Err(OutOfMemory),
-        Err(
-            ClusterFault::NoPredicate
-            | ClusterFault::UidsSpent { .. }
-            | ClusterFault::Moving { .. }
-            | ClusterFault::Pending { .. }
-            | ClusterFault::HasData { .. }
-            | ClusterFault::NoGroup { .. }
-            | ClusterFault::SameGroup { .. }
-            | ClusterFault::AlreadyMoving
-            | ClusterFault::NotMoving { .. }
-            | ClusterFault::OldCopy { .. },
-        ) => unreachable!(),
-    }
-}
-
-// The transaction that began so. After an error its start has ended.
-fn make<C: Cluster>(
-    alloc: Global,
-    cluster: &mut C,
-    begun: Begun,
-    pins: Vec<Pinned>,
-    end: Slip,
-) -> Mem<Txn>
-    requires own { C.takes cluster.old end ≡ true }
-    requires pins { (graph : List Triple) × ArePinsOf begun.start (arc_value begun.schema) (arc_value begun.owners) pins.items graph }
-    requires drawn { begun.start < next (C.zero cluster.old).history }
-    requires active { is_active_of (active (C.zero cluster.old).history) begun.start end ≡ true }
-    ensures made { (graph : List Triple) → ArePinsOf begun.start (arc_value begun.schema) (arc_value begun.owners) pins.items graph → IfOk result (λ txn. txn ≡ record { start = begun.start; schema = arc_value begun.schema; base = graph; own = []; author = end }) }
-    ensures same { C.takes cluster.new ≡ C.takes cluster.old }
-    ensures ok { OnOk result (C.zero cluster.new ≡ C.zero cluster.old) }
-    ensures err { OnErr result ((was : Bool) × Meets (C.takes cluster.old) (C.zero cluster.old) (C.zero cluster.new) (EndsAt end begun.start was)) }
-    ensures legal { OnErr result (IsLegal (C.zero cluster.new).groups (C.zero cluster.new).history) }
-{
-    let start = begun.start;
-    match Txn::make(alloc, begun, pins, end) {
-        Ok(txn) => Ok(txn),
-        Err((OutOfMemory, end)) => {
-            let _ = cluster.end(end, start);
-            Err(OutOfMemory)
-        }
-    }
-}
-
-// Ends a transaction without its changes. It takes no memory.
-fn close<C: Cluster>(cluster: &mut C, txn: Txn)
-    requires own { C.takes cluster.old txn.author ≡ true }
-    requires drawn { txn.start < next (C.zero cluster.old).history }
-    requires active { is_active_of (active (C.zero cluster.old).history) txn.start txn.author ≡ true }
-    ensures same { C.takes cluster.new ≡ C.takes cluster.old }
-    ensures ends { (was : Bool) × Meets (C.takes cluster.old) (C.zero cluster.old) (C.zero cluster.new) (EndsAt txn.author txn.start was) }
-    ensures legal { IsLegal (C.zero cluster.new).groups (C.zero cluster.new).history }
-{
-    let (start, end) = txn.close();
-    let _ = cluster.end(end, start);
-}
-
-/// Ends a session's transaction without its changes. `NoSession` comes where it has none. It takes no memory.
-pub fn discard<C: Cluster>(
-    cluster: &mut C,
-    session: &mut Option<Txn>,
-    author: u32,
-    sid: u32,
-) -> Reply
-    requires own { C.takes cluster.old author ≡ true }
-    requires legal { IsLegal (C.zero cluster.old).groups (C.zero cluster.old).history }
-    requires session { IsSession (C.zero cluster.old) author session.old }
-    ensures same { C.takes cluster.new ≡ C.takes cluster.old }
-    ensures ok { Meets (C.takes cluster.old) (C.zero cluster.old) (C.zero cluster.new) (Serves author sid session.old session.new (λ m n. discarded m sid ≡ (result, n))) }
-    ensures closed { session.new ≡ None }
-    ensures legal { IsLegal (C.zero cluster.new).groups (C.zero cluster.new).history }
-{
-    let _ = author;
-    match session.take() {
-        Some(txn) => {
-            close(cluster, txn);
-            Reply::Discard { sid }
-        }
-        None => no_session(sid),
-    }
 }

@@ -6,3 +6,8 @@ pub mod OwnSteps
 pub mod BegunPins
 pub mod SomeListed
 pub mod Scanning
+pub mod SpanLaws
+pub mod Walking
+pub mod FoundNodes
+pub mod StandingKeys
+pub mod LookedUp

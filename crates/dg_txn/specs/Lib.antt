@@ -4,3 +4,5 @@ pub mod Own
 pub mod Gains
 pub mod Existing
 pub mod Laws
+pub mod Spans
+pub mod Walks

@@ -1,12 +1,14 @@
 // What lists gain and lose by the changes of a transaction, by key.
-ghost use Rattle.std.specs.Prelude.{[], ◌≡◌, ◌+◌, ◌<◌, ◌++◌, IfOk, OnOk, length, map, take};
+ghost use Rattle.std.specs.Prelude.{[], ◌≡◌, ◌+◌, ◌<◌, ◌++◌, IfOk, OnOk, length, map, take, option_copied};
 ghost use Rattle.std.specs.Arc.{arc_value};
+ghost use Rattle.std.specs.Ordering.{is_le, is_lt};
 ghost use Rattle.dg_values.specs.Ascending.{Ascends};
 ghost use Rattle.dg_delta.specs.Ops.{op_cmp};
-ghost use Rattle.dg_keys.specs.Keys.{ops_at, AreParts};
+ghost use Rattle.dg_keys.specs.Keys.{key_cmp, ops_at, AreParts};
 ghost use Rattle.dg_pages.specs.Entries.{change_of, changes_of, entries_of};
 ghost use Rattle.dg_txn.specs.Gains.{parts_from, change_by, parts_after};
 ghost use Rattle.dg_pages.specs.Paged.{joined};
+ghost use Rattle.dg_txn.specs.Walks.{part_keys, IsLeast};
 
 use crate::composing::{composed, push_copies};
 use dg_delta::Op;
@@ -55,6 +57,26 @@ impl Gains {
         match self.lists.get(key) {
             Some(ops) => ops.as_slice(),
             None => &[],
+        }
+    }
+
+    // The least key at or above this one whose list changes.
+    pub fn key_from(&self, key: &Key) -> Option<&Key>
+        ensures { IsLeast (λ other. is_le (key_cmp key.now other)) (part_keys self.now) (option_copied result) }
+    {
+        match self.lists.next_from(key) {
+            Some((found, _)) => Some(&**found),
+            None => None,
+        }
+    }
+
+    // The least key above this one whose list changes.
+    pub fn key_above(&self, key: &Key) -> Option<&Key>
+        ensures { IsLeast (λ other. is_lt (key_cmp key.now other)) (part_keys self.now) (option_copied result) }
+    {
+        match self.lists.next_above(key) {
+            Some((found, _)) => Some(&**found),
+            None => None,
         }
     }
 

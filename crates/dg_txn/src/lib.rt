@@ -9,10 +9,15 @@ mod composing;
 mod existing;
 mod gains;
 mod laws;
+mod lookups;
 mod offer;
+mod overlay;
 mod present;
 mod reads;
+mod span;
+mod standing;
 mod txn;
+mod walk;
 
 pub use laws::{current_pins, pinned_graphs};
 pub use present::Present;

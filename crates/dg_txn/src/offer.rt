@@ -4,7 +4,6 @@ ghost use Rattle.dg_zero.specs.Listings as listed;
 ghost use Rattle.dg_zero.specs.Listings.{AreGainsAndLosses};
 ghost use Rattle.dg_zero.specs.Offers.{IsSound, IsMadeOf};
 ghost use Rattle.dg_edges.specs.Deltas as named;
-ghost use Rattle.dg_edges.specs.Deltas.{IsPlain};
 ghost use Rattle.dg_txn.specs.Own.{graph};
 
 use crate::Txn;
@@ -17,10 +16,10 @@ use std::marker::Brand;
 use std::sync::ledger::Blank;
 
 impl Txn {
-    /// The offer to commit its changes, which is made of them, and sound where there are some. Its parts are copied as they
-    /// stand. The error is want of memory.
+    /// The offer to commit its changes, which is made of them, and sound where there are some, under any schema. Its parts are
+    /// copied as they stand, so no list is read for them; the keys by which the changes conflict are made from the lists of
+    /// their subjects at the start. The error is want of memory.
     pub fn offer(&self, alloc: Global) -> Mem<Offer>
-        requires plain { IsPlain self.now.schema }
         ensures start { IfOk result (λ offer. offer.start ≡ self.now.start) }
         ensures preds { IfOk result (λ offer. offer.preds ≡ named.preds_of self.now.own) }
         ensures keys { IfOk result (λ offer. offer.keys ≡ listed.conflict_keys self.now.schema self.now.base self.now.own) }

@@ -2,7 +2,7 @@
 ghost use Rattle.std.specs.Prelude.{◌≡◌, ◌<◌, ◌++◌, IfOk};
 ghost use Rattle.dg_zero.specs.Listings as listed;
 ghost use Rattle.dg_zero.specs.Listings.{listing};
-ghost use Rattle.dg_edges.specs.Deltas.{IsPlain, AreFitting};
+ghost use Rattle.dg_edges.specs.Deltas.{AreFitting};
 ghost use Rattle.dg_txn.specs.Own.{AreOwn};
 
 use crate::gains::Gains;
@@ -19,7 +19,6 @@ pub fn stepped<L: Ledger>(alloc: Global, txn: &Txn, changes: &[Change], blank: B
     requires name { blank.name ≡ L.name }
     requires parts { blank.parts ≡ L.parts }
     requires room { 0 < blank.parts }
-    requires plain { IsPlain txn.now.schema }
     requires fitting { AreFitting txn.now.schema changes.now }
     ensures { IfOk result (AreOwn txn.now.schema txn.now.base (txn.now.own ++ changes.now)) }
 {

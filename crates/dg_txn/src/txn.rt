@@ -2,18 +2,20 @@
 ghost use Rattle.std.specs.Prelude.{[], ◌≡◌, ◌<◌, ◌++◌, ◌↔◌, List, IfOk, IfErr, OnOk, OnErr, IsTrue};
 ghost use Rattle.std.specs.Arc.{arc_value};
 ghost use Rattle.dg_graph.specs.declared.change.Triple.{Triple};
-ghost use Rattle.dg_edges.specs.Deltas.{IsPlain, AreFitting};
+ghost use Rattle.dg_edges.specs.Deltas.{AreFitting};
 ghost use Rattle.dg_txn.specs.Pins.{ArePinsOf};
 
-use crate::Present;
 use crate::gains::Gains;
+use crate::overlay::read_over;
 use crate::reads::stepped;
-use dg_delta::apply;
+use crate::{Present, lookups};
 use dg_graph::{Change, Snapshot};
 use dg_group::Pinned;
 use dg_keys::Key;
 use dg_schema::Schema;
-use dg_values::{Mem, OutOfMemory, Posting, Steps, Str};
+use dg_tokens::IndexToken;
+use dg_uids::Uids;
+use dg_values::{Mem, OutOfMemory, Posting, Steps, Str, Tokenizer, Value};
 use dg_zero::{Begun, Slip};
 use std::alloc::Global;
 use std::marker::{Brand, Model};
@@ -71,10 +73,10 @@ impl Txn {
         })
     }
 
-    /// Adds changes behind its own. It costs by these changes and by the lists of their subjects, each of which is read once.
-    /// After an error nothing has changed.
+    /// Adds changes behind its own, under any schema. It costs by these changes and by what it reads: the list of each subject
+    /// that they change, once, and, where a predicate is declared with `@reverse` and `@count`, the list of each node whose
+    /// subjects change, once. No index is read. After an error nothing has changed.
     pub fn add(&mut self, alloc: Global, mut changes: Vec<Change>) -> Mem<()>
-        requires plain { IsPlain self.old.schema }
         requires fitting { AreFitting self.old.schema changes.items }
         ensures ok { OnOk result (self.new ≡ record { start = self.old.start; schema = self.old.schema; base = self.old.base; own = self.old.own ++ changes.items; author = self.old.author }) }
         ensures err { OnErr result (self.new ≡ self.old) }
@@ -121,12 +123,63 @@ impl Snapshot for Txn {
         reads: &mut Steps<L>,
     ) -> Mem<Vec<Posting>> {
         let p = Str::from_str(alloc, p)?;
-        let key = Key::Data { p, s };
-        let list = self.base.read(alloc, &key, reads)?;
-        let ops = self.gains.ops_at(&key);
-        if ops.is_empty() {
-            return Ok(list);
-        }
-        apply(alloc, list.as_slice(), ops)
+        read_over(alloc, &self.base, &self.gains, &Key::Data { p, s }, reads)
+    }
+
+    fn subjects<L: Ledger>(
+        &self,
+        alloc: Global,
+        p: &str,
+        o: u64,
+        reads: &mut Steps<L>,
+    ) -> Mem<Uids> {
+        lookups::subjects(alloc, &self.base, &self.gains, p, o, reads)
+    }
+
+    fn by_token<L: Ledger>(
+        &self,
+        alloc: Global,
+        p: &str,
+        t: &IndexToken,
+        reads: &mut Steps<L>,
+    ) -> Mem<Uids> {
+        lookups::by_token(alloc, &self.base, &self.gains, p, t, reads)
+    }
+
+    fn by_token_range<L: Ledger>(
+        &self,
+        alloc: Global,
+        p: &str,
+        tokenizer: Tokenizer,
+        low: Option<&Value>,
+        high: Option<&Value>,
+        reads: &mut Steps<L>,
+    ) -> Mem<Uids> {
+        lookups::by_token_range(
+            alloc,
+            &self.base,
+            &self.gains,
+            p,
+            tokenizer,
+            low,
+            high,
+            reads,
+        )
+    }
+
+    fn holders<L: Ledger>(&self, alloc: Global, p: &str, reads: &mut Steps<L>) -> Mem<Uids> {
+        lookups::holders(alloc, &self.base, &self.gains, p, reads)
+    }
+
+    fn by_count<L: Ledger>(
+        &self,
+        alloc: Global,
+        p: &str,
+        reverse: bool,
+        low: u64,
+        high: u64,
+        reads: &mut Steps<L>,
+    ) -> Mem<Uids> {
+        lookups::by_count(alloc, &self.base, &self.gains, p, reverse, low, high, reads)
     }
 }

@@ -1,14 +1,14 @@
 // Sets of nodes.
 ghost use Rattle.std.specs.Prelude.{◌≡◌, ◌↔◌, length, IsSome, IfSome, IfOk, slice_get};
 ghost use Rattle.std.specs.Ordering.{nat_cmp};
-ghost use Rattle.dg_values.specs.Ascending.{Ascends, has};
+ghost use Rattle.dg_values.specs.Ascending.{Ascends, ascending, has};
 ghost use Rattle.dg_uids.specs.Sets.{common, lacking, either, page_of};
 
 use crate::differences::difference;
 use crate::intersections::intersection;
 use crate::pages::{above, behind, chosen};
 use crate::unions::both;
-use dg_sets::{ascend, is_there};
+use dg_sets::{ascend, in_order, is_there};
 use dg_values::{Mem, OutOfMemory};
 use std::alloc::Global;
 use std::marker::Model;
@@ -42,6 +42,23 @@ impl Uids {
         } else {
             None
         }
+    }
+
+    /// The set of these uids, which may stand in any order and more than once. It sorts in place and takes no memory.
+    pub fn gathered(items: Vec<u64>) -> Uids
+        ensures nodes { result ≡ ascending nat_cmp items.items }
+        ensures ascend { Ascends nat_cmp result }
+    {
+        let items = in_order(items);
+        Uids { items }
+    }
+
+    /// An equal set. The error is want of memory.
+    pub fn copy(&self, alloc: Global) -> Mem<Uids>
+        ensures { IfOk result (λ uids. uids ≡ self.now) }
+    {
+        let items = Vec::from_slice(alloc, self.as_slice())?;
+        Ok(Uids { items })
     }
 
     /// Whether the node is in the set. It looks by halves, and takes no memory.

@@ -1,14 +1,20 @@
 -- What a commit leaves, whether it goes through or is refused.
-use Rattle.std.proofs.Common.{◌≡◌, ℕ, zero, suc, ◌<◌, ◌^◌, Bool, true, false, List, [], ◌∷◌, Some, None, length, get_or, refl, ap, subst, sym, ◌∙◌, arith}
+use Rattle.std.proofs.Common.{◌≡◌, ℕ, zero, suc, ◌<◌, ◌≤◌, ◌^◌, Bool, true, false, List, [], ◌∷◌, Some, None, length, get_or, refl, ap, subst, sym, ◌∙◌, arith}
 use Rattle.std.specs.Prelude.{slice_get, ◌==◌, ◌&&◌, ◌||◌}
 use Rattle.std.proofs.lemmas.Option.{slice_get_read}
+use Rattle.dg_graph.specs.declared.change.Change.{Change}
+use Rattle.dg_graph.specs.Changes.{changed}
 use Rattle.dg_keys.specs.declared.conflict.ConflictKey.{ConflictKey}
 use Rattle.dg_keys.specs.Conflicts.{conflict_cmp}
 use Rattle.dg_oracle.specs.Commits as oracle
 use Rattle.dg_oracle.specs.Verdicts as judged
 use Rattle.dg_oracle.specs.declared.verdict.Verdict.TheVariants as verdicts
 use Rattle.dg_zero.specs.declared.entry.Entry.{Entry}
-use Rattle.dg_zero.specs.declared.entry.Event.TheVariants.{Refused}
+use Rattle.dg_zero.specs.declared.chain.Committed.{Committed}
+use Rattle.dg_zero.specs.declared.entry.Event.TheVariants.{Commit, Refused}
+use Rattle.dg_keys.specs.declared.record.Part.{Part}
+use Rattle.dg_keys.specs.declared.record.Record.{Record}
+use Rattle.dg_zero.specs.Chains.{keys_at, preds_at, offer_of}
 use Rattle.dg_zero.specs.declared.entry.Reason.TheVariants.{Conflict}
 use Rattle.dg_zero.specs.declared.offer.Offer.{Offer}
 use Rattle.dg_zero.specs.Counters.{active, starts_of, Started, is_active_of}
@@ -51,6 +57,20 @@ pub drawn_refused : (old new : Zero) (author : ℕ) (offer : Offer) (fault : Ora
 drawn_refused old new author offer draws.OutOfMemory none f e = (refl, e)
 drawn_refused old new author offer (draws.TimestampsSpent spent) none f e = (none, f.0, f.1, refl, e)
 
+-- the predicate of the first change alone is named
+pub first_alone : (preds : List (List ℕ)) (cs : List Change) (pred : List ℕ) (first : Change) → length preds ≡ 1 → 1 ≤ length cs → pred ≡ get_or preds 0 pred → first ≡ get_or cs 0 first → pred ≡ (changed first).p → preds_at [] cs ≡ preds
+first_alone [] cs pred first one some a b same = absurd (omega (arith, one))
+first_alone (p ∷ []) [] pred first one some a b same = absurd (omega (arith, some))
+first_alone (p ∷ []) (c ∷ cs) pred first one some a b same = ap (λ (q : List ℕ). q ∷ []) (ap (λ (d : Change). (changed d).p) (sym b) ∙ (sym same ∙ a))
+first_alone (p ∷ q ∷ ps) cs pred first one some a b same = absurd (omega (arith, one))
+
+-- what was made of an offer is its entry: its keys are those by which its changes conflict
+pub made_of_room : (h : List Entry) (offer : Offer) (made : Committed) (keys : List ConflictKey) (parts : List Part) (written : Record) (ts : ℕ) → offer_of made keys parts ≡ offer → written ≡ record { ts = ts; fresh = []; parts = parts } → IsMadeOf (schema_at h offer.start) (graph_at h offer.start []) offer.changes offer.keys offer.parts → Commit made.start made.preds (keys_at h made.start made.changes) made.changes written ≡ commit_of offer ts
+made_of_room h offer made keys parts written ts same is m =
+    ap (Commit made.start made.preds (keys_at h made.start made.changes) made.changes) is
+    ∙ (ap (λ (o : Offer). Commit o.start o.preds (keys_at h o.start o.changes) o.changes (record { ts = ts; fresh = []; parts = o.parts })) same
+    ∙ ap (λ (ks : List ConflictKey). Commit offer.start offer.preds ks offer.changes (record { ts = ts; fresh = []; parts = offer.parts })) (sym m.keys_are))
+
 -- an active start ends
 pub ended : {cs : List ℕ} (n : ℕ) (o : oracle.OracleState ConflictKey) (uid : ℕ) (d : List PredDef) (ps : List Place) (w : List Tablet) (h now : List Entry) → h ≡ now → (author start : ℕ) → IsKept n o uid d ps w h cs → oracle.is_active o.active start ≡ true → (oracle.is_active (starts_of (active now)) start ≡ true → is_active_of (active now) start author ≡ true) → IsKept n (oracle.ended o start) uid d ps w (and_entry h author (End start)) cs
 ended n o uid d ps w h now view author start k known own =
@@ -79,7 +99,7 @@ module _ {cs : List ℕ} (n : ℕ) (o : oracle.OracleState ConflictKey) (uid : �
   place at ts j = let n = named conflict_cmp (commits h) offer.start offer.keys at ts (over_history at ts j) in some_in offer.keys at n.key n.at
 
   -- refused for a key, of which there are two copies
-  pub refused : (at ts : ℕ) (key kept : ConflictKey) (past : List Entry) → judged.verdict conflict_cmp (commits now) offer.start offer.keys ≡ verdicts.Conflict at ts → key ≡ get_or offer.keys at key → kept ≡ get_or offer.keys at kept → past ≡ and_entry h author (Refused offer.start (Conflict kept ts)) → IsKept n (oracle.ended o offer.start) uid d ps w past cs × (verdict now offer.start offer.preds offer.keys ≡ Some (Conflict key ts)) × (past ≡ and_entry now author (Refused offer.start (Conflict key ts)))
+  pub refused : (at ts : ℕ) (key kept : ConflictKey) (past : List Entry) → judged.verdict conflict_cmp (commits now) offer.start offer.keys ≡ verdicts.Conflict at ts → key ≡ get_or offer.keys at key → kept ≡ get_or offer.keys at kept → past ≡ and_entry h author (Refused offer.start (Conflict kept ts)) → IsKept n (oracle.ended o offer.start) uid d ps w past cs × (verdict now offer.start offer.preds offer.keys ≡ Some (Conflict key ts)) × (past ≡ and_entry now author (Refused offer.start (Conflict key ts))) × (kept ≡ key)
   refused at ts key kept past j r1 r2 p =
       let jh = over_history at ts j in
       let lt = place at ts j in
@@ -89,6 +109,7 @@ module _ {cs : List ℕ} (n : ℕ) (o : oracle.OracleState ConflictKey) (uid : �
         rw p (refused_keeps n o uid d ps w h author k offer.start (Conflict kept ts) mine_before (reason_is h offer.start offer.keys at ts kept jh g2)),
         subst (λ (x : List Entry). verdict x offer.start offer.preds offer.keys ≡ Some (Conflict key ts)) view (conflict_is h offer.start offer.preds offer.keys at ts key k.idle jh g1),
         p ∙ (ap (λ (x : List Entry). and_entry x author (Refused offer.start (Conflict kept ts))) view ∙ ap (λ (x : ConflictKey). and_entry now author (Refused offer.start (Conflict x ts))) same),
+        same,
       )
 
   clear_before : judged.verdict conflict_cmp (commits now) offer.start offer.keys ≡ verdicts.Clear → verdict h offer.start offer.preds offer.keys ≡ None

@@ -14,10 +14,7 @@ pub mod NewTablets
 pub mod AlterKeeps
 pub mod Streams
 pub mod EmptyOffers
-pub mod SeenEvents
-pub mod SeenObjects
 pub mod SpentTimestamps
-pub mod PresentTriples
 pub mod OneParts
 pub mod ExactRecords
 pub mod DeclaredTablets

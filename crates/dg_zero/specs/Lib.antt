@@ -12,10 +12,7 @@ pub mod ExactLaws
 pub mod Chains
 pub mod Pasts
 pub mod Records
-pub mod Recorded
 pub mod States
 pub mod TabletLaws
 pub mod Altering
-pub mod Seen
-pub mod Present
 pub mod Examples

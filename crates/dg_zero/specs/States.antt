@@ -8,6 +8,7 @@ use Rattle.dg_keys.specs.declared.conflict.ConflictKey.{ConflictKey}
 use Rattle.dg_keys.specs.declared.record.Part.{Part}
 use Rattle.dg_keys.specs.declared.record.Record.{Record}
 use Rattle.dg_keys.specs.declared.record.Tablet.{Tablet}
+use Rattle.dg_keys.specs.Conflicts.{conflict_text}
 use Rattle.dg_keys.specs.Tablets.{tablet_cmp}
 use Rattle.dg_oracle.specs.Commits.{OracleState, is_active}
 use Rattle.dg_oracle.specs.declared.fault.OracleFault.{OracleFault}
@@ -91,14 +92,15 @@ commit_fault_of offer (draws.TimestampsSpent next) = commits.TimestampsSpent nex
 abbrev pub commit_of : Offer → ℕ → Event
 commit_of offer ts = events.Commit offer.start offer.preds offer.keys offer.changes (record { ts = ts; fresh = []; parts = offer.parts })
 
--- a refused commit names its reason and ends the transaction, or hands the offer back and leaves it active
+-- a refused commit names its reason, a key with its text, and ends the transaction, or hands the offer back and leaves it active
 abbrev pub IsRefusal : Zero → Zero → ℕ → Offer → CommitFault → Type 0
 IsRefusal old new author offer (commits.Moving pred) =
     (verdicts.verdict old.history offer.start offer.preds offer.keys ≡ Some (reasons.Moving pred))
     × (new ≡ and_then old author (events.Refused offer.start (reasons.Moving pred)))
-IsRefusal old new author offer (commits.Conflict key ts) =
+IsRefusal old new author offer (commits.Conflict key text ts) =
     (verdicts.verdict old.history offer.start offer.preds offer.keys ≡ Some (reasons.Conflict key ts))
     × (new ≡ and_then old author (events.Refused offer.start (reasons.Conflict key ts)))
+    × (text ≡ conflict_text key)
 IsRefusal old new author offer (commits.TimestampsSpent spent back) =
     (verdicts.verdict old.history offer.start offer.preds offer.keys ≡ None)
     × (spent ≡ next old.history) × (next old.history ≡ 2 ^ 62) × (back ≡ offer) × (new ≡ and_then old author events.Look)

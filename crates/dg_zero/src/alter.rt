@@ -8,6 +8,7 @@ ghost use Rattle.dg_keys.specs.declared.record.Record.{Record};
 ghost use Rattle.dg_keys.specs.Tablets.{tablet_cmp};
 ghost use Rattle.dg_oracle.specs.Commits.{two_drawn};
 ghost use Rattle.dg_schema.specs.Definitions.{is_declared, with_definitions};
+ghost use Rattle.dg_zero.specs.declared.entry.Entry.{Entry};
 ghost use Rattle.dg_zero.specs.Chains.{count_of, event_of};
 ghost use Rattle.dg_zero.specs.Counters.{next, active};
 ghost use Rattle.dg_zero.specs.Legal.{IsLegal};
@@ -226,7 +227,7 @@ fn alter_room(alloc: Global, past: &mut Past) -> Mem<Box<Alteration>>
 // The entry of an alter, but for its record. It takes no memory.
 fn altered_what(mut room: Box<Alteration>, start: u64, newer: Schema) -> What
     ensures recorded { count_of result ≡ 1 }
-    ensures event { (written : Record) → event_of written result ≡ Event.Alter start newer written }
+    ensures event { (before : List Entry) (written : Record) → event_of before written result ≡ Event.Alter start newer written }
 {
     room.start = start;
     room.newer = newer;

@@ -16,7 +16,7 @@ use std::mem;
 // Adds an entry that has no record at the end. It takes no memory.
 pub fn append(past: &mut Past, slip: Slip, what: What)
     requires { count_of what ≡ 0 }
-    ensures { entries past.new ≡ and_entry (entries past.old) slip (event_of no_record what) }
+    ensures { entries past.new ≡ and_entry (entries past.old) slip (event_of (entries past.old) no_record what) }
 {
     put(&mut past.chain, slip, what);
 }
@@ -25,7 +25,7 @@ pub fn append(past: &mut Past, slip: Slip, what: What)
 pub fn append_with(past: &mut Past, slip: Slip, what: What, written: Record)
     requires recorded { count_of what ≡ 1 }
     requires room { vec_len past.old.records < vec_capacity past.old.records }
-    ensures { entries past.new ≡ and_entry (entries past.old) slip (event_of written what) }
+    ensures { entries past.new ≡ and_entry (entries past.old) slip (event_of (entries past.old) written what) }
 {
     put(&mut past.chain, slip, what);
     past.records.push_reserved(written);
@@ -42,7 +42,7 @@ pub fn make_room(past: &mut Past) -> Mem<()>
 // Puts an entry in front of a chain. It takes no memory.
 fn put(chain: &mut Chain, slip: Slip, what: What)
     ensures count { recorded chain.new ≡ recorded chain.old + count_of what }
-    ensures entries { (records : List Record) → entries_of records chain.new ≡ and_entry (entries_of records chain.old) slip (event_of (get_or records (recorded chain.old) no_record) what) }
+    ensures entries { (records : List Record) → entries_of records chain.new ≡ and_entry (entries_of records chain.old) slip (event_of (entries_of records chain.old) (get_or records (recorded chain.old) no_record) what) }
 {
     let Slip { author, mut room } = slip;
     *room = mem::replace(chain, Chain::Spent(0));

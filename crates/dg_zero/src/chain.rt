@@ -2,16 +2,15 @@
 // alters stand apart, so that a begin, an end or a look takes one small node.
 use crate::Reason;
 use dg_graph::Change;
-use dg_keys::ConflictKey;
 use dg_schema::Schema;
 use dg_values::{List, Str};
 
-// What a commit has beside its record.
+// What a commit has beside its record. Its keys are those by which its changes conflict over the graph at its start, so they
+// stand in the oracle alone; and no predicate stands here where only that of the first change is named.
 #[derive(Debug, Drop)]
 pub struct Committed {
     pub start: u64,
     pub preds: List<Str>,
-    pub keys: List<ConflictKey>,
     pub changes: List<Change>,
 }
 
@@ -89,8 +88,10 @@ pub enum Chain {
     After(Box<Chain>, Kept),
 }
 
-// With its bookkeeping the allocator gives a node 64 bytes.
+// With its bookkeeping the allocator gives a node 64 bytes, and a commit another 64.
 const _: () = prove!(size_of::<Chain>() == 56);
+
+const _: () = prove!(size_of::<Committed>() == 56);
 
 impl Drop for Chain {
     fn drop(mut self) {

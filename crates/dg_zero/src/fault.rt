@@ -37,13 +37,24 @@ pub enum ZeroFault {
 #[derive(Debug, Drop)]
 pub enum CommitFault {
     /// There is not enough memory; the transaction is still active.
-    OutOfMemory { offer: Offer },
+    OutOfMemory {
+        offer: Offer,
+    },
     /// The tablet of this predicate is held; the transaction is ended.
-    Moving { pred: Str },
-    /// This key was committed above the start, last at `ts`; the transaction is ended.
-    Conflict { key: ConflictKey, ts: u64 },
+    Moving {
+        pred: Str,
+    },
+    /// This key was committed above the start, last at `ts`, and `text` names it; the transaction is ended.
+    Conflict {
+        key: ConflictKey,
+        text: Str,
+        ts: u64,
+    },
     /// The next timestamp would be 2^62, which is none; the transaction is still active.
-    TimestampsSpent { next: u64, offer: Offer },
+    TimestampsSpent {
+        next: u64,
+        offer: Offer,
+    },
 }
 
 /// Want of memory is a fault of its own.

@@ -32,14 +32,6 @@ impl ZeroState {
         self.next_uid
     }
 
-    /// The first node that a lease of `count` nodes above `top` would answer now; none exactly where so many aren't left
-    /// below 2^62. It appends nothing and takes no memory.
-    pub fn leasable(&self, top: u64, count: u64) -> Option<u64>
-        ensures { result ≡ leased self.now.history top count }
-    {
-        first_of(self.next_uid, top, count)
-    }
-
     /// Leases `count` nodes above `top` and above all that were leased, and answers the first. `UidsSpent` comes exactly
     /// where so many aren't left, with the next node; then nothing is leased, and a look is appended. It takes no memory.
     pub fn lease(&mut self, slip: Slip, top: u64, count: u64) -> Result<u64, ZeroFault>

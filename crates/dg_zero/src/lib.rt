@@ -19,8 +19,6 @@ mod offer;
 mod owners;
 mod past;
 mod present;
-mod recorded;
-mod seen;
 mod stream;
 mod tablets;
 mod zero;
@@ -33,6 +31,5 @@ pub use laws::{
 pub use offer::Offer;
 pub use owners::Owners;
 pub use past::Slip;
-pub use seen::Seen;
 pub use tablets::Phase;
 pub use zero::{Begun, ZeroState};

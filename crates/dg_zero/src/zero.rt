@@ -27,9 +27,9 @@ use std::sync::Arc;
 
 /// All that happened, and where it leads. Contracts see the number of groups and the history, which is legal.
 ///
-/// The history stands in memory whole, its records in a list of their own. Beside it stand the next timestamp, the active
-/// starts and the keys of commits (in the oracle), the next node, the present schema and owners, which a begin shares, the
-/// tablets, and how many of them each group owns.
+/// The history stands in memory, its records in a list of their own; the keys of its commits, which their changes tell, stand in
+/// the oracle alone. Beside it stand the next timestamp and the active starts (in the oracle), the next node, the present
+/// schema and owners, which a begin shares, the tablets, and how many of them each group owns.
 #[derive(Drop)]
 pub struct ZeroState {
     pub(crate) alloc: Global,

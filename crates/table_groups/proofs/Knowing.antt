@@ -29,6 +29,9 @@ use Rattle.dg_txn.specs.Pins.{ArePinsOf}
 use Rattle.table_groups.specs.declared.sessions.Session.{Session}
 use Rattle.table_groups.specs.Opened.{HasBegun, IsOpen, StayOpen, ends}
 use Rattle.dg_node.proofs.Bringing.{all_set, element}
+use Rattle.dg_node.proofs.Alone.{met_alone}
+use Rattle.dg_node.specs.declared.cluster.ClusterFault.{ClusterFault}
+use Rattle.dg_node.specs.Clusters.{Meets, AltersAt}
 
 -- ---- an entry leaves open transactions as they are
 
@@ -57,7 +60,7 @@ leased_stay z w author top count (Err f) ok err legal = stay_after z w author Lo
 
 refused_stay : (z w : Zero) (author : ℕ) (offer : Offer) (fault : CommitFault) → IsRefusal z w author offer fault → IsLegal w.groups w.history → StayOpen z w
 refused_stay z w author offer (Moving pred) is legal = stay_after z w author (Refused offer.start (reasons.Moving pred)) is.1 legal
-refused_stay z w author offer (Conflict key ts) is legal = stay_after z w author (Refused offer.start (reasons.Conflict key ts)) is.1 legal
+refused_stay z w author offer (Conflict key text ts) is legal = stay_after z w author (Refused offer.start (reasons.Conflict key ts)) is.1 legal
 refused_stay z w author offer (TimestampsSpent spent back) is legal = stay_after z w author Look is.4 legal
 refused_stay z w author offer (OutOfMemory back) is legal = stay_after z w author Look is.1 legal
 
@@ -89,6 +92,14 @@ pub altered_starts : {A E : Type 0} (z w : Zero) (starts : List Started) (author
 altered_starts z w starts author newer parts (Ok x) k ok err = active_then z w starts starts author (alter_of z newer parts) k ok refl
 altered_starts z w starts author newer parts (Err f) k ok err = looked_starts z w starts author k err
 
+pub alters_stay : (z w : Zero) (author : ℕ) (newer : List PredDef) (r : Result (ℕ × ℕ) ClusterFault) → Meets (λ n. true) z w (AltersAt author newer r) → IsLegal w.groups w.history → StayOpen z w
+alters_stay z w author newer (Ok d) m legal = let a = met_alone z w (AltersAt author newer (Ok d)) m in stay_after z w author (alter_of z newer a.ok.0) a.ok.2 legal
+alters_stay z w author newer (Err f) m legal = let a = met_alone z w (AltersAt author newer (Err f)) m in stay_after z w author Look a.err legal
+
+pub alters_starts : (z w : Zero) (starts : List Started) (author : ℕ) (newer : List PredDef) (r : Result (ℕ × ℕ) ClusterFault) → starts ≡ active z.history → Meets (λ n. true) z w (AltersAt author newer r) → starts ≡ active w.history
+alters_starts z w starts author newer (Ok d) k m = let a = met_alone z w (AltersAt author newer (Ok d)) m in active_then z w starts starts author (alter_of z newer a.ok.0) k a.ok.2 refl
+alters_starts z w starts author newer (Err f) k m = let a = met_alone z w (AltersAt author newer (Err f)) m in active_then z w starts starts author Look k a.err refl
+
 pub ended_starts : (z w : Zero) (starts after : List Started) (author start : ℕ) (was : Bool) → starts ≡ active z.history → w ≡ and_then z author (cond was (End start) Look) → after ≡ cond was (ended starts start) starts → after ≡ active w.history
 ended_starts z w starts after author start true k is e = active_then z w starts after author (End start) k is e
 ended_starts z w starts after author start false k is e = active_then z w starts after author Look k is e
@@ -98,7 +109,7 @@ committed_starts z w starts after author start ts offer k is start_is e = active
 
 pub refused_starts : (z w : Zero) (starts after : List Started) (author start : ℕ) (offer : Offer) (fault : CommitFault) → starts ≡ active z.history → IsRefusal z w author offer fault → offer.start ≡ start → after ≡ cond (ends fault) (ended starts start) starts → after ≡ active w.history
 refused_starts z w starts after author start offer (Moving pred) k is start_is e = active_then z w starts after author (Refused offer.start (reasons.Moving pred)) k is.1 (e ∙ ap (ended starts) (sym start_is))
-refused_starts z w starts after author start offer (Conflict key ts) k is start_is e = active_then z w starts after author (Refused offer.start (reasons.Conflict key ts)) k is.1 (e ∙ ap (ended starts) (sym start_is))
+refused_starts z w starts after author start offer (Conflict key text ts) k is start_is e = active_then z w starts after author (Refused offer.start (reasons.Conflict key ts)) k is.1 (e ∙ ap (ended starts) (sym start_is))
 refused_starts z w starts after author start offer (TimestampsSpent spent back) k is start_is e = active_then z w starts after author Look k is.4 e
 refused_starts z w starts after author start offer (OutOfMemory back) k is start_is e = active_then z w starts after author Look k is.1 e
 

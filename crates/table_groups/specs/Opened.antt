@@ -32,5 +32,5 @@ StayOpen before after = (s : Session) → IsOpen before.history s → IsOpen aft
 -- whether a refused commit ends its transaction
 abbrev pub ends : CommitFault → Bool
 ends (Moving pred) = true
-ends (Conflict key ts) = true
+ends (Conflict key text ts) = true
 ends fault = false

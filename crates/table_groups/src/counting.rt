@@ -1,22 +1,17 @@
 // The state and its groups, with what may be asked of them.
-ghost use Rattle.std.specs.Prelude.{◌≡◌, ◌≢◌, ◌+◌, [], true, IsTrue, IfOk};
+ghost use Rattle.std.specs.Prelude.{◌≡◌, ◌≢◌, ◌+◌, [], true, IfOk};
 ghost use Rattle.std.specs.Arc.{arc_value};
-ghost use Rattle.std.specs.List.{AllByRecursion};
-ghost use Rattle.dg_edges.specs.Deltas.{IsPlain};
-ghost use Rattle.dg_schema.specs.Definitions.{definition_of};
-ghost use Rattle.dg_zero.specs.Legal.{KeepsKind, kind_rank};
 ghost use Rattle.dg_zero.specs.Offers.{IsSound, IsMadeOf};
-ghost use Rattle.dg_zero.specs.Worlds.{schema, world, schema_at, graph_at};
+ghost use Rattle.dg_zero.specs.Worlds.{schema_at, graph_at};
 ghost use Rattle.table_groups.specs.Opened.{HasBegun, StayOpen, ends};
 
 use crate::fault::{Answer, Fault};
 use crate::starts::{Start, drop_ended, drop_start, is_active_of, may_end};
-use dg_edges::is_plain;
 use dg_group::Pinned;
-use dg_node::Owned;
-use dg_schema::{PredDef, Schema};
-use dg_values::{Kind, Mem, OutOfMemory};
-use dg_zero::{Begun, CommitFault, Offer, Slip, ZeroFault, ZeroState};
+use dg_node::{Cluster, ClusterFault, Owned};
+use dg_schema::Schema;
+use dg_values::OutOfMemory;
+use dg_zero::{Begun, CommitFault, Offer, Slip, ZeroFault};
 use std::alloc::Global;
 use std::marker::Model;
 
@@ -101,18 +96,15 @@ impl Counting {
         Ok(self.owned.lease(slip, top, count))
     }
 
-    // Adds or replaces definitions without directives, where those of predicates with triples keep their kinds.
+    // Adds or replaces definitions.
     pub(crate) fn alter(
         &mut self,
         alloc: Global,
         newer: &Schema,
-    ) -> Answer<Result<(u64, u64), ZeroFault>>
+    ) -> Answer<Result<(u64, u64), ClusterFault>>
         ensures stay { StayOpen self.old self.new }
     {
         let slip = Slip::new(alloc, 0)?;
-        if !is_plain(newer) || !keep_kinds(alloc, self.owned.zero(), newer.definitions())? {
-            return Err(Fault::Unfit);
-        }
         Ok(self.owned.alter(alloc, slip, newer))
     }
 
@@ -153,42 +145,4 @@ pub(crate) fn has_ended(fault: &CommitFault) -> bool
         CommitFault::Moving { .. } | CommitFault::Conflict { .. } => true,
         CommitFault::OutOfMemory { .. } | CommitFault::TimestampsSpent { .. } => false,
     }
-}
-
-// Whether two kinds are one.
-fn is_kind(a: Kind, b: Kind) -> bool
-    ensures { IsTrue result → kind_rank a ≡ kind_rank b }
-{
-    a as u8 == b as u8
-}
-
-// Whether a definition keeps an older one's kind, and whether it is a list.
-fn is_alike(newer: &PredDef, older: &PredDef) -> bool
-    ensures { IsTrue result → (kind_rank newer.now.kind ≡ kind_rank older.now.kind) × (newer.now.list ≡ older.now.list) }
-{
-    is_kind(newer.kind, older.kind) && newer.list == older.list
-}
-
-// Whether a definition may take the place of the present one of its name.
-fn keeps_kind(alloc: Global, zero: &ZeroState, newer: &PredDef) -> Mem<bool>
-    ensures { IfOk result (λ kept. IsTrue kept → KeepsKind (world zero.now.history).graph newer.now (definition_of (schema zero.now.history) newer.now.name)) }
-{
-    match zero.schema().lookup(newer.name.as_str()) {
-        Some(older) if !is_alike(newer, older) => {
-            Ok(!zero.has_triple(alloc, newer.name.as_str())?)
-        }
-        _ => Ok(true),
-    }
-}
-
-// Whether each may.
-fn keep_kinds(alloc: Global, zero: &ZeroState, newer: &[PredDef]) -> Mem<bool>
-    ensures { IfOk result (λ kept. IsTrue kept → AllByRecursion (λ def. KeepsKind (world zero.now.history).graph def (definition_of (schema zero.now.history) def.name)) newer.now) }
-{
-    for definition in newer {
-        if !keeps_kind(alloc, zero, definition)? {
-            return Ok(false);
-        }
-    }
-    Ok(true)
 }

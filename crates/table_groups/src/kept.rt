@@ -6,7 +6,7 @@ use crate::counting::{Counting, has_ended};
 use crate::fault::{Answer, Fault};
 use crate::sessions::{Session, add_at, drop_session, offer_of, open, place_of};
 use dg_graph::Change;
-use dg_node::Owned;
+use dg_node::{ClusterFault, Owned};
 use dg_schema::Schema;
 use dg_txn::{Present, Txn};
 use dg_values::{OutOfMemory, Posting, Str};
@@ -132,7 +132,7 @@ impl Kept {
         &mut self,
         alloc: Global,
         newer: &Schema,
-    ) -> Answer<Result<(u64, u64), ZeroFault>> {
+    ) -> Answer<Result<(u64, u64), ClusterFault>> {
         self.counting.alter(alloc, newer)
     }
 

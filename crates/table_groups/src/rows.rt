@@ -4,13 +4,14 @@ ghost use Rattle.std.specs.Prelude.{◌≡◌};
 use crate::counted;
 use crate::fault::{Answer, Fault};
 use crate::kept::Kept;
-use crate::listing::{key_text, list_text, offer_text};
+use crate::listing::{list_text, offer_text};
 use crate::postings::{changes, postings_text, run_of};
 use crate::schemas::{schema_of, schema_text};
 use crate::words::{halved, listed, number, small, text, told, truth, words_of};
 use dg_graph::Snapshot;
 use dg_group::{GroupState, entries_of_histories, records_of_histories};
 use dg_keys::Key;
+use dg_node::ClusterFault;
 use dg_schema::PredDef;
 use dg_store::Store;
 use dg_txn::{current_pins, pinned_graphs};
@@ -56,7 +57,7 @@ fn changed(alloc: Global, kept: &mut Kept, command: &str, rest: &str) -> Answer<
         },
         "alter" => match kept.alter(alloc, &schema_of(alloc, rest)?)? {
             Ok((start, ts)) => Ok(format!(in alloc; "{start} {ts}")?),
-            Err(fault) => fault_text(alloc, &fault),
+            Err(fault) => hindrance_text(alloc, &fault),
         },
         "lease" => leased(alloc, kept, rest),
         "glance" => glanced(alloc, kept, rest),
@@ -193,15 +194,25 @@ fn fault_text(alloc: Global, fault: &ZeroFault) -> Answer<String> {
     }
 }
 
+// Why definitions may not be added.
+fn hindrance_text(alloc: Global, fault: &ClusterFault) -> Answer<String> {
+    match fault {
+        ClusterFault::OutOfMemory => told(alloc, "out of memory"),
+        ClusterFault::Pending { start } => Ok(format!(in alloc; "pending {start}")?),
+        ClusterFault::HasData { pred } => Ok(format!(in alloc; "data of {pred}")?),
+        ClusterFault::TimestampsSpent { next } => {
+            Ok(format!(in alloc; "timestamps spent at {next}")?)
+        }
+        _ => Err(Fault::Unfit),
+    }
+}
+
 // Why a commit is refused.
 fn refused_text(alloc: Global, fault: &CommitFault) -> Answer<String> {
     match fault {
         CommitFault::OutOfMemory { .. } => told(alloc, "out of memory"),
         CommitFault::Moving { pred } => Ok(format!(in alloc; "moving {pred}")?),
-        CommitFault::Conflict { key, ts } => {
-            let key = key_text(alloc, key)?;
-            Ok(format!(in alloc; "{key} at {ts}")?)
-        }
+        CommitFault::Conflict { text, ts, .. } => Ok(format!(in alloc; "{text} at {ts}")?),
         CommitFault::TimestampsSpent { next, .. } => {
             Ok(format!(in alloc; "timestamps spent at {next}")?)
         }

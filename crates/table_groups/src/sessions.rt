@@ -7,7 +7,7 @@ ghost use Rattle.dg_zero.specs.Offers.{IsSound, IsMadeOf};
 ghost use Rattle.table_groups.specs.Opened.{HasBegun, IsOpen};
 
 use crate::fault::{Answer, Fault};
-use dg_edges::{are_fitting, is_plain};
+use dg_edges::are_fitting;
 use dg_graph::{Change, Snapshot};
 use dg_group::Pinned;
 use dg_txn::Txn;
@@ -62,7 +62,7 @@ fn add_to(alloc: Global, txn: &mut Txn, changes: Vec<Change>) -> Answer<()>
     ensures base { txn.new.base ≡ txn.old.base }
     ensures author { txn.new.author ≡ txn.old.author }
 {
-    if !is_plain(txn.schema()) || !are_fitting(txn.schema(), changes.as_slice()) {
+    if !are_fitting(txn.schema(), changes.as_slice()) {
         return Err(Fault::Unfit);
     }
     Ok(txn.add(alloc, changes)?)
@@ -87,7 +87,7 @@ pub(crate) fn offer_of(alloc: Global, txn: &Txn) -> Answer<Offer>
     ensures sound { IfOk result (λ offer. IsSound txn.now.schema txn.now.base offer.preds offer.keys offer.parts) }
     ensures made_of { IfOk result (λ offer. IsMadeOf txn.now.schema txn.now.base offer.changes offer.keys offer.parts) }
 {
-    if txn.is_empty() || !is_plain(txn.schema()) {
+    if txn.is_empty() {
         return Err(Fault::Unfit);
     }
     Ok(txn.offer(alloc)?)

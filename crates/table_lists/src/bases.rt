@@ -1,7 +1,7 @@
 // The table of bases: one is packed, and then found in and walked, and its bytes are shown.
 use crate::fault::{Answer, Fault};
 use crate::postings::{posting, postings, postings_text};
-use crate::words::{number, truth};
+use crate::words::{hex, number, truth};
 use dg_base::Base;
 use dg_sets::ascend;
 use dg_values::{Mem, OutOfMemory, Posting};
@@ -78,18 +78,6 @@ fn asked(alloc: Global, base: &Base, command: &str, words: &[&str]) -> Answer<St
         ("walk", [from, most]) => walked(alloc, base, number(from)?, number(most)?),
         _ => Err(Fault::Unfit),
     }
-}
-
-// Bytes in two hexadecimal digits each, or the word for none.
-fn hex(alloc: Global, bytes: &[u8]) -> Mem<String> {
-    if bytes.is_empty() {
-        return Ok(String::from_str(alloc, "none")?);
-    }
-    let mut text = String::new(alloc);
-    for byte in bytes {
-        text.push_str(format!(in alloc; "{byte:02x}")?.as_str())?;
-    }
-    Ok(text)
 }
 
 fn walked(alloc: Global, base: &Base, from: u64, most: u64) -> Answer<String> {

@@ -19,6 +19,7 @@ mod maps;
 mod pages;
 mod postings;
 mod reads;
+mod spelled_keys;
 mod stores;
 mod tables;
 mod tablets;

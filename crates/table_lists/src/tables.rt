@@ -3,7 +3,7 @@ use crate::fault::{Answer, Fault};
 use crate::kept_list::KeptList;
 use crate::kept_store::KeptStore;
 use crate::words::{first, number};
-use crate::{bases, changes, conflicts, keys, lists, maps, stores, tablets};
+use crate::{bases, changes, conflicts, keys, lists, maps, spelled_keys, stores, tablets};
 use dg_base::Base;
 use dg_keys::ConflictKey;
 use dg_pages::Pages;
@@ -43,6 +43,7 @@ impl Tables {
             "list" => lists::answer(alloc, &mut self.lists, version, command, rest),
             "store" => stores::answer(alloc, &mut self.stores, version, command, rest),
             "key" => keys::answer(alloc, command, rest),
+            "keybytes" => spelled_keys::answer(alloc, command, rest),
             "tablet" => tablets::answer(alloc, command, rest),
             "conflict" => conflicts::answer(alloc, &mut self.conflicts, command, rest),
             _ => Err(Fault::Unfit),

@@ -1,4 +1,6 @@
 // The words of a row, and the words that answers are made of.
+ghost use Rattle.std.specs.Prelude.{◌<◌, IfOk};
+
 use crate::fault::{Answer, Fault};
 use dg_values::{Mem, OutOfMemory, Str};
 use std::alloc::Global;
@@ -97,4 +99,42 @@ pub(crate) fn order(alloc: Global, order: Ordering) -> Mem<String> {
         Ordering::Greater => "greater",
     };
     Ok(String::from_str(alloc, word)?)
+}
+
+// Bytes in two hexadecimal digits each, or the word for none.
+pub(crate) fn hex(alloc: Global, bytes: &[u8]) -> Mem<String> {
+    if bytes.is_empty() {
+        return Ok(String::from_str(alloc, "none")?);
+    }
+    let mut text = String::new(alloc);
+    for byte in bytes {
+        text.push_str(format!(in alloc; "{byte:02x}")?.as_str())?;
+    }
+    Ok(text)
+}
+
+// The bytes that a word has in two hexadecimal digits each; none for the word for none.
+pub(crate) fn bytes(alloc: Global, word: &str) -> Answer<Vec<u8>> {
+    let mut bytes = Vec::new(alloc);
+    if word == "none" {
+        return Ok(bytes);
+    }
+    for pair in word.as_bytes().chunks(2) {
+        let [high, low] = *pair else {
+            return Err(Fault::Unfit);
+        };
+        bytes.push(16 * digit(high)? + digit(low)?)?;
+    }
+    Ok(bytes)
+}
+
+// What a hexadecimal digit is worth.
+fn digit(byte: u8) -> Answer<u8>
+    ensures { IfOk result (λ worth. worth < 16) }
+{
+    match byte {
+        b'0'..=b'9' => Ok(byte - b'0'),
+        b'a'..=b'f' => Ok(byte - b'a' + 10),
+        _ => Err(Fault::Unfit),
+    }
 }

@@ -1,13 +1,16 @@
 // Calls that read lists, each time with a new count of reads.
 ghost use Rattle.std.specs.Prelude.{◌≡◌, ◌≢◌, ◌+◌, ◌<◌, ◌^◌, [], IfOk, length};
-ghost use Rattle.dg_edges.specs.Deltas.{IsPlain, AreFitting};
+ghost use Rattle.dg_edges.specs.Deltas.{AreFitting};
 ghost use Rattle.dg_edges.specs.Expanding.{new_names};
 ghost use Rattle.dg_graph.specs.Graphs.{IsLawful};
+ghost use Rattle.dg_schema.specs.Definitions.{with_definitions};
+ghost use Rattle.dg_zero.specs.Listings.{AreGainsAndLosses};
 ghost use Rattle.dg_zero.specs.Offers.{IsSound, IsMadeOf};
 
-use dg_edges::{Resolved, conflict_keys, deltas_of, expand, offer_of};
+use dg_edges::{Resolved, conflict_keys, deltas_of, expand, offer_of, schema_deltas};
 use dg_graph::{Change, Plain, Snapshot};
 use dg_keys::{ConflictKey, Part};
+use dg_schema::Schema;
 use dg_values::{Mem, Posting, Steps, Str};
 use dg_zero::Offer;
 use std::alloc::Global;
@@ -41,10 +44,10 @@ pub(crate) fn offer<S: Snapshot>(
     start: u64,
     changes: &[Change],
 ) -> Mem<Offer>
-    requires plain { IsPlain (S.declared snap.now) }
     requires fitting { AreFitting (S.declared snap.now) changes.now }
     requires lawful { IsLawful (S.declared snap.now) (S.graph snap.now) }
     ensures start { IfOk result (λ offer. offer.start ≡ start) }
+    ensures changes { IfOk result (λ offer. offer.changes ≡ changes.now) }
     ensures sound { changes.now ≢ [] → IfOk result (λ offer. IsSound (S.declared snap.now) (S.graph snap.now) offer.preds offer.keys offer.parts) }
     ensures made_of { IfOk result (λ offer. IsMadeOf (S.declared snap.now) (S.graph snap.now) offer.changes offer.keys offer.parts) }
 {
@@ -61,10 +64,10 @@ fn offer_in<S: Snapshot, L: Ledger>(
     requires name { blank.name ≡ L.name }
     requires parts { blank.parts ≡ L.parts }
     requires some { 0 < blank.parts }
-    requires plain { IsPlain (S.declared snap.now) }
     requires fitting { AreFitting (S.declared snap.now) changes.now }
     requires lawful { IsLawful (S.declared snap.now) (S.graph snap.now) }
     ensures start { IfOk result (λ offer. offer.start ≡ start) }
+    ensures changes { IfOk result (λ offer. offer.changes ≡ changes.now) }
     ensures sound { changes.now ≢ [] → IfOk result (λ offer. IsSound (S.declared snap.now) (S.graph snap.now) offer.preds offer.keys offer.parts) }
     ensures made_of { IfOk result (λ offer. IsMadeOf (S.declared snap.now) (S.graph snap.now) offer.changes offer.keys offer.parts) }
 {
@@ -78,7 +81,6 @@ pub(crate) fn parts_and_keys(
     at: &Plain,
     changes: &[Change],
 ) -> Mem<(Vec<Part>, Vec<ConflictKey>)>
-    requires plain { IsPlain at.now.schema }
     requires fitting { AreFitting at.now.schema changes.now }
     requires lawful { IsLawful at.now.schema at.now.graph }
 {
@@ -94,7 +96,6 @@ fn parts_and_keys_in<L: Ledger>(
     requires name { blank.name ≡ L.name }
     requires parts { blank.parts ≡ L.parts }
     requires some { 0 < blank.parts }
-    requires plain { IsPlain at.now.schema }
     requires fitting { AreFitting at.now.schema changes.now }
     requires lawful { IsLawful at.now.schema at.now.graph }
 {
@@ -125,4 +126,28 @@ fn expanded_in<L: Ledger>(
 {
     let mut reads = Steps::<L>::new(blank);
     expand(alloc, at, r, first, &mut reads)
+}
+
+// What lists gain and lose where definitions are added or replaced.
+pub(crate) fn alter_parts(alloc: Global, at: &Plain, newer: &Schema) -> Mem<Vec<Part>>
+    requires lawful { IsLawful at.now.schema at.now.graph }
+    ensures { IfOk result (λ v. AreGainsAndLosses at.now.schema at.now.graph (with_definitions at.now.schema newer.now) at.now.graph v.items) }
+{
+    alter_parts_in::<Brand>(alloc, at, newer, Blank::new(1))
+}
+
+fn alter_parts_in<L: Ledger>(
+    alloc: Global,
+    at: &Plain,
+    newer: &Schema,
+    blank: Blank,
+) -> Mem<Vec<Part>>
+    requires name { blank.name ≡ L.name }
+    requires parts { blank.parts ≡ L.parts }
+    requires some { 0 < blank.parts }
+    requires lawful { IsLawful at.now.schema at.now.graph }
+    ensures { IfOk result (λ v. AreGainsAndLosses at.now.schema at.now.graph (with_definitions at.now.schema newer.now) at.now.graph v.items) }
+{
+    let mut reads = Steps::<L>::new(blank);
+    schema_deltas(alloc, at, newer, &mut reads)
 }

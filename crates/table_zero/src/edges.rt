@@ -3,16 +3,16 @@ ghost use Rattle.std.specs.Prelude.{◌≡◌};
 ghost use Rattle.std.specs.List.{AllByRecursion};
 ghost use Rattle.dg_nquad.specs.Plain.{HasNoVariable};
 
-use crate::counted;
 use crate::fault::{Answer, Fault};
-use crate::ground::{Ground, MOST};
+use crate::ground::{Ground, MOST, schema_of};
 use crate::lawful::lawful_at;
 use crate::listing::{keys_text, names_text, parts_text};
 use crate::postings::{changes, changes_text};
 use crate::words::{halved, number, told, truth, words_of};
+use crate::{counted, large};
 use dg_edges::{
-    EdgeFault, Resolved, are_fitting, changes_as_parts, commits_as_changes, is_plain, mutations,
-    offers, preds_of, resolve,
+    EdgeFault, Resolved, are_fitting, changes_as_parts, commits_as_changes, exact_histories,
+    is_plain, mutations, named_triples, offers, preds_of, resolve,
 };
 use dg_graph::Change;
 use dg_nquad::{NquadFault, read_mutation};
@@ -37,6 +37,8 @@ pub(crate) fn answer(
             offers();
             changes_as_parts();
             commits_as_changes();
+            named_triples();
+            exact_histories();
             told(alloc, "hold")
         }
         _ => match ground {
@@ -51,16 +53,37 @@ fn asked(alloc: Global, ground: &Ground, command: &str, rest: &str) -> Answer<St
         "plain" => truth(alloc, is_plain(&ground.at.schema)),
         "resolve" => resolved(alloc, &ground.at.schema, rest),
         "expand" => expanded(alloc, ground, rest),
+        "alter" => altered(alloc, ground, rest),
         "offer" => {
             let (start, rest) = halved(rest);
             offered(alloc, ground, number(start)?, rest)
         }
+        "large" => enlarged(alloc, ground, rest),
         _ => {
             let words = words_of(alloc, rest)?;
             let changes = changes(alloc, words.as_slice())?;
             of_changes(alloc, ground, command, changes.as_slice())
         }
     }
+}
+
+// The calls at a large size.
+fn enlarged(alloc: Global, ground: &Ground, rest: &str) -> Answer<String> {
+    let (command, rest) = halved(rest);
+    match command {
+        "offer" => large::offered(alloc, ground, rest),
+        "alter" => large::altered(alloc, ground, rest),
+        "expand" => large::stated(alloc, ground, rest),
+        _ => Err(Fault::Unfit),
+    }
+}
+
+// What lists gain and lose where definitions are added or replaced.
+fn altered(alloc: Global, ground: &Ground, rest: &str) -> Answer<String> {
+    let newer = schema_of(alloc, rest)?;
+    let at = lawful_at(alloc, ground, &[])?;
+    let parts = counted::alter_parts(alloc, &at, &newer)?;
+    Ok(parts_text(alloc, parts.as_slice())?)
 }
 
 fn of_changes(alloc: Global, ground: &Ground, command: &str, changes: &[Change]) -> Answer<String> {
@@ -103,7 +126,11 @@ pub(crate) fn offer_text(alloc: Global, offer: &Offer) -> Answer<String> {
 }
 
 // The statements of a text, checked.
-fn checked(alloc: Global, schema: &Schema, text: &str) -> Answer<Result<Resolved, EdgeFault>> {
+pub(crate) fn checked(
+    alloc: Global,
+    schema: &Schema,
+    text: &str,
+) -> Answer<Result<Resolved, EdgeFault>> {
     if text.len() > MOST {
         return Err(Fault::Unfit);
     }
@@ -115,7 +142,7 @@ fn checked(alloc: Global, schema: &Schema, text: &str) -> Answer<Result<Resolved
 }
 
 // Why statements are refused.
-fn fault_text(alloc: Global, fault: &EdgeFault) -> Answer<String> {
+pub(crate) fn fault_text(alloc: Global, fault: &EdgeFault) -> Answer<String> {
     match fault {
         EdgeFault::OutOfMemory => Err(Fault::OutOfMemory),
         EdgeFault::NoPredicate { pred } => Ok(format!(in alloc; "no predicate {pred}")?),

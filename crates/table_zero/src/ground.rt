@@ -27,11 +27,17 @@ impl Ground {
         })
     }
 
+    // Makes a change, and keeps it.
+    pub(crate) fn apply_one(&mut self, change: Change) -> Mem<()> {
+        self.at.graph.apply(&self.at.schema, &change)?;
+        self.base.push(change)?;
+        Ok(())
+    }
+
     // Makes changes, and keeps them.
     pub(crate) fn apply(&mut self, alloc: Global, words: &[&str]) -> Answer<usize> {
         for change in changes(alloc, words)? {
-            self.at.graph.apply(&self.at.schema, &change)?;
-            self.base.push(change)?;
+            self.apply_one(change)?;
         }
         Ok(self.at.graph.triples().len())
     }

@@ -1,20 +1,22 @@
 // The state that coordinates all, with what may be asked of it.
-ghost use Rattle.std.specs.Prelude.{◌≡◌, ◌≢◌, ℕ, ◌≤◌, [], IsTrue, IfOk};
-ghost use Rattle.std.specs.List.{AllByRecursion};
+ghost use Rattle.std.specs.Prelude.{◌≡◌, ◌≢◌, [], IsTrue, IfOk};
+ghost use Rattle.std.specs.List.{AllByRecursion, list_any};
 ghost use Rattle.dg_values.specs.Ascending.{Ascends};
 ghost use Rattle.dg_keys.specs.Conflicts.{conflict_cmp};
-ghost use Rattle.dg_edges.specs.Deltas.{IsPlain, AreFitting};
+ghost use Rattle.dg_graph.specs.Graphs.{is_of};
 ghost use Rattle.dg_schema.specs.Definitions.{definition_of};
-ghost use Rattle.dg_zero.specs.Legal.{IsLegal, KeepsKind, kind_rank};
+ghost use Rattle.dg_zero.specs.Legal.{KeepsKind, kind_rank};
 ghost use Rattle.dg_zero.specs.Offers.{IsSound, IsMadeOf};
-ghost use Rattle.dg_zero.specs.Worlds.{schema, world, schema_at, graph_at};
+ghost use Rattle.dg_zero.specs.Worlds.{world_at, schema_at, graph_at};
 ghost use Rattle.table_zero.specs.Kept.{ends};
+ghost use Rattle.table_zero.specs.Steps.{world_in};
 
 use crate::counted;
 use crate::fault::{Answer, Fault};
 use crate::starts::{Start, drop_ended, drop_start, is_active, is_active_of, may_end};
-use dg_edges::{are_fitting, is_plain};
-use dg_graph::Change;
+use crate::steps::{Step, plain_at};
+use dg_edges::are_fitting;
+use dg_graph::{Change, Graph, Plain};
 use dg_keys::ConflictKey;
 use dg_oracle::Verdict;
 use dg_schema::{PredDef, Schema};
@@ -23,11 +25,13 @@ use dg_zero::{Begun, CommitFault, Offer, Slip, ZeroFault, ZeroState};
 use std::alloc::Global;
 use std::marker::Model;
 
-// The state, its active starts with their authors, and the last alter's timestamp, which no call tells.
+// The state, its active starts with their authors, and what was committed and altered, which no call tells; and the last
+// alter's timestamp.
 #[derive(Drop)]
 pub(crate) struct KeptZero {
     zero: ZeroState,
     starts: Vec<Start>,
+    steps: Vec<Step>,
     altered: u64,
 }
 
@@ -39,7 +43,7 @@ impl Model for KeptZero {
 
     ghost view = { λ kept. kept.zero };
 
-    ghost invariant = { λ kept. IsKnown kept.zero kept.starts.items kept.altered };
+    ghost invariant = { λ kept. IsKnown kept.zero kept.starts.items kept.steps.items };
 }
 
 impl KeptZero {
@@ -51,6 +55,7 @@ impl KeptZero {
         Ok(KeptZero {
             zero: ZeroState::new(alloc, groups)?,
             starts: Vec::new(alloc),
+            steps: Vec::new(alloc),
             altered: 0,
         })
     }
@@ -99,21 +104,35 @@ impl KeptZero {
         Ok(self.zero.lease(slip, top, count))
     }
 
-    // Adds or replaces definitions without directives, where those of predicates with triples keep their kinds.
+    // The schema and the graph at a timestamp.
+    fn seen(&self, alloc: Global, at: u64) -> Mem<Plain>
+        ensures { IfOk result (λ seen. world_in seen ≡ world_at self.now.history at) }
+    {
+        plain_at(alloc, self.steps.as_slice(), at)
+    }
+
+    // Whether a predicate has a triple at present.
+    pub(crate) fn has_triple(&self, alloc: Global, pred: &str) -> Mem<bool> {
+        let present = self.seen(alloc, self.zero.last())?;
+        Ok(has_triple(&present.graph, pred))
+    }
+
+    // Adds or replaces definitions, where those of predicates with triples keep their kinds.
     pub(crate) fn alter(
         &mut self,
         alloc: Global,
-        newer: &Schema,
+        newer: Schema,
     ) -> Answer<Result<(u64, u64), ZeroFault>> {
         let slip = Slip::new(alloc, 0)?;
-        if !are_plain(&self.zero, newer) {
+        let present = self.seen(alloc, self.zero.last())?;
+        if !keep_kinds(&present, newer.definitions()) {
             return Err(Fault::Unfit);
         }
-        if !keep_kinds(alloc, &self.zero, newer.definitions())? {
-            return Err(Fault::Unfit);
-        }
-        match self.zero.alter(slip, newer, List::new(alloc)) {
+        let parts = List::from_vec(counted::alter_parts(alloc, &present, &newer)?);
+        self.steps.reserve(1)?;
+        match self.zero.alter(slip, &newer, parts) {
             Ok((start, ts)) => {
+                self.steps.push_reserved(Step::Altered { ts, newer });
                 self.altered = ts;
                 Ok(Ok((start, ts)))
             }
@@ -127,16 +146,18 @@ impl KeptZero {
         alloc: Global,
         author: u32,
         start: u64,
-        changes: &[Change],
+        changes: List<Change>,
     ) -> Answer<Result<u64, CommitFault>> {
         let slip = Slip::new(alloc, author)?;
         if !is_active_of(self.starts.as_slice(), start, author) {
             return Err(Fault::Unfit);
         }
-        let offer = offer_from(alloc, &self.zero, self.altered, start, changes)?;
+        let offer = self.offer(alloc, start, changes.as_slice())?;
+        self.steps.reserve(1)?;
         match self.zero.commit(slip, offer) {
             Ok(ts) => {
                 drop_start(&mut self.starts, start);
+                self.steps.push_reserved(Step::Committed { ts, changes });
                 Ok(Ok(ts))
             }
             Err(fault) => {
@@ -146,9 +167,21 @@ impl KeptZero {
         }
     }
 
-    // The offer of changes over the graph at a start.
-    pub(crate) fn offer(&self, alloc: Global, start: u64, changes: &[Change]) -> Answer<Offer> {
-        offer_from(alloc, &self.zero, self.altered, start, changes)
+    // The offer of changes over the graph at a start, where the schema there is the present one and they fit it.
+    pub(crate) fn offer(&self, alloc: Global, start: u64, changes: &[Change]) -> Answer<Offer>
+        ensures start { IfOk result (λ offer. offer.start ≡ start) }
+        ensures changes { IfOk result (λ offer. offer.changes ≡ changes.now) }
+        ensures sound { IfOk result (λ offer. IsSound (schema_at self.now.history start) (graph_at self.now.history start []) offer.preds offer.keys offer.parts) }
+        ensures made_of { IfOk result (λ offer. IsMadeOf (schema_at self.now.history start) (graph_at self.now.history start []) offer.changes offer.keys offer.parts) }
+    {
+        if start < self.altered || changes.is_empty() {
+            return Err(Fault::Unfit);
+        }
+        let seen = self.seen(alloc, start)?;
+        if !are_fitting(&seen.schema, changes) {
+            return Err(Fault::Unfit);
+        }
+        Ok(counted::offer(alloc, &seen, start, changes)?)
     }
 
     // The verdict on the ascending keys of an active start.
@@ -166,7 +199,7 @@ impl KeptZero {
         if at < self.altered {
             return Err(Fault::Unfit);
         }
-        let seen = self.zero.seen_at(alloc, self.zero.schema(), at)?;
+        let seen = self.seen(alloc, at)?;
         Ok(counted::objects(alloc, &seen, p, s)?)
     }
 }
@@ -181,49 +214,14 @@ fn has_ended(fault: &CommitFault) -> bool
     }
 }
 
-// The offer of changes over the graph at a start, where the schema there is the present one and they fit it.
-fn offer_from(
-    alloc: Global,
-    zero: &ZeroState,
-    altered: u64,
-    start: u64,
-    changes: &[Change],
-) -> Answer<Offer>
-    requires legal { IsLegal zero.now.groups zero.now.history }
-    requires stays { (at : ℕ) → altered ≤ at → schema_at zero.now.history at ≡ schema zero.now.history }
-    ensures start { IfOk result (λ offer. offer.start ≡ start) }
-    ensures sound { IfOk result (λ offer. IsSound (schema_at zero.now.history start) (graph_at zero.now.history start []) offer.preds offer.keys offer.parts) }
-    ensures made_of { IfOk result (λ offer. IsMadeOf (schema_at zero.now.history start) (graph_at zero.now.history start []) offer.changes offer.keys offer.parts) }
+// Whether a predicate has a triple.
+fn has_triple(graph: &Graph, pred: &str) -> bool
+    ensures { result ≡ list_any (is_of pred.now) graph.now }
 {
-    if start < altered || changes.is_empty() || !is_plain(zero.schema()) {
-        return Err(Fault::Unfit);
-    }
-    if !are_fitting(zero.schema(), changes) {
-        return Err(Fault::Unfit);
-    }
-    Ok(offer_at(alloc, zero, start, changes)?)
-}
-
-// The same, where all that is so.
-fn offer_at(alloc: Global, zero: &ZeroState, start: u64, changes: &[Change]) -> Mem<Offer>
-    requires legal { IsLegal zero.now.groups zero.now.history }
-    requires same { schema_at zero.now.history start ≡ schema zero.now.history }
-    requires plain { IsPlain (schema zero.now.history) }
-    requires fitting { AreFitting (schema zero.now.history) changes.now }
-    requires some { changes.now ≢ [] }
-    ensures start { IfOk result (λ offer. offer.start ≡ start) }
-    ensures sound { IfOk result (λ offer. IsSound (schema_at zero.now.history start) (graph_at zero.now.history start []) offer.preds offer.keys offer.parts) }
-    ensures made_of { IfOk result (λ offer. IsMadeOf (schema_at zero.now.history start) (graph_at zero.now.history start []) offer.changes offer.keys offer.parts) }
-{
-    let seen = zero.seen_at(alloc, zero.schema(), start)?;
-    counted::offer(alloc, &seen, start, changes)
-}
-
-// Whether neither present nor newer definitions have index, reverse or count.
-fn are_plain(zero: &ZeroState, newer: &Schema) -> bool
-    ensures { IsTrue result → IsPlain (schema zero.now.history) × IsPlain newer.now }
-{
-    is_plain(zero.schema()) && is_plain(newer)
+    graph
+        .triples()
+        .iter()
+        .any(|t| t.p.as_str().cmp(pred).is_eq())
 }
 
 // Whether two kinds are one.
@@ -241,25 +239,22 @@ fn is_alike(newer: &PredDef, older: &PredDef) -> bool
 }
 
 // Whether a definition may take the place of the present one of its name.
-fn keeps_kind(alloc: Global, zero: &ZeroState, newer: &PredDef) -> Mem<bool>
-    ensures { IfOk result (λ kept. IsTrue kept → KeepsKind (world zero.now.history).graph newer.now (definition_of (schema zero.now.history) newer.now.name)) }
+fn keeps_kind(present: &Plain, newer: &PredDef) -> bool
+    ensures { IsTrue result → KeepsKind present.now.graph newer.now (definition_of present.now.schema newer.now.name) }
 {
-    match zero.schema().lookup(newer.name.as_str()) {
+    match present.schema.lookup(newer.name.as_str()) {
         Some(older) if !is_alike(newer, older) => {
-            Ok(!zero.has_triple(alloc, newer.name.as_str())?)
+            !has_triple(&present.graph, newer.name.as_str())
         }
-        _ => Ok(true),
+        _ => true,
     }
 }
 
 // Whether each may.
-fn keep_kinds(alloc: Global, zero: &ZeroState, newer: &[PredDef]) -> Mem<bool>
-    ensures { IfOk result (λ kept. IsTrue kept → AllByRecursion (λ def. KeepsKind (world zero.now.history).graph def (definition_of (schema zero.now.history) def.name)) newer.now) }
+fn keep_kinds(present: &Plain, newer: &[PredDef]) -> bool
+    ensures { IsTrue result → AllByRecursion (λ def. KeepsKind present.now.graph def (definition_of present.now.schema def.name)) newer.now }
 {
-    for definition in newer {
-        if !keeps_kind(alloc, zero, definition)? {
-            return Ok(false);
-        }
-    }
-    Ok(true)
+    newer
+        .iter()
+        .all(|definition| keeps_kind(present, definition))
 }

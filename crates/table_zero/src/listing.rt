@@ -28,10 +28,14 @@ pub(crate) fn keys_text(alloc: Global, keys: &[ConflictKey]) -> Mem<String> {
     listed(alloc, texts.as_slice())
 }
 
+// The key of a list: a subject and its predicate, or what is filed under the predicate and by what.
 fn list_text(alloc: Global, key: &Key) -> Mem<String> {
-    match key {
+    match key.copy(alloc)? {
         Key::Data { p, s } => Ok(format!(in alloc; "{s} {p}")?),
-        _ => Ok(String::from_str(alloc, "another key")?),
+        Key::Index { p, t } => key_text(alloc, &ConflictKey::Index { p, t, s: None }),
+        Key::Reverse { p, o } => Ok(format!(in alloc; "reverse {p} {o}")?),
+        Key::Count { p, n } => Ok(format!(in alloc; "count {p} {n}")?),
+        Key::RCount { p, n } => Ok(format!(in alloc; "rcount {p} {n}")?),
     }
 }
 

@@ -6,9 +6,12 @@ ghost use Rattle.dg_values.specs.Order.{posting_cmp};
 use crate::counted;
 use crate::fault::{Answer, Fault};
 use crate::ground::{Ground, schema_of, schema_text};
+use crate::large::pointed;
 use crate::postings::{changes, postings_text, triple, triple_text};
 use crate::words::{listed, number, sides, told, truth, words_of};
-use dg_graph::{Change, Triple, change_objects, graphs, is_of_subject, is_single, lists_of_graphs};
+use dg_graph::{
+    Change, Triple, change_objects, graphs, is_of_subject, is_single, lists_of_graphs, look_ups,
+};
 use dg_schema::Schema;
 use dg_sets::InOrder;
 use dg_values::{Mem, OutOfMemory, Posting, Str};
@@ -29,6 +32,7 @@ pub(crate) fn answer(
         "laws" => {
             graphs();
             lists_of_graphs();
+            look_ups();
             told(alloc, "hold")
         }
         "copy" => copied(alloc, rest),
@@ -81,6 +85,7 @@ fn asked(alloc: Global, ground: &mut Ground, command: &str, rest: &str) -> Answe
             let count = ground.apply(alloc, words.as_slice())?;
             Ok(format!(in alloc; "{count} triples")?)
         }
+        "large" => pointed(alloc, ground, rest),
         "triples" => Ok(triples_text(alloc, ground.at.graph.triples())?),
         "single" => truth(alloc, is_single(&ground.at.schema, rest)),
         "objects" => objects(alloc, ground, rest),

@@ -5,14 +5,14 @@ use crate::edges::offer_text;
 use crate::fault::{Answer, Fault};
 use crate::ground::{schema_of, schema_text};
 use crate::kept_zero::KeptZero;
-use crate::listing::{key_text, record_text, tablets_text};
+use crate::listing::{record_text, tablets_text};
 use crate::postings::{changes, posting, postings_text};
 use crate::triples::subject;
 use crate::words::{halved, maybe, number, small, text, told, truth, words_of};
 use dg_keys::ConflictKey;
 use dg_oracle::{OracleFault, Verdict};
 use dg_sets::ascend;
-use dg_values::{OutOfMemory, Str};
+use dg_values::{List, OutOfMemory, Str};
 use dg_zero::{
     Begun, CommitFault, Phase, ZeroFault, each_history, longer_histories, schemas_of_starts,
 };
@@ -120,7 +120,7 @@ fn leased(alloc: Global, kept: &mut KeptZero, rest: &str) -> Answer<String> {
 
 fn altered(alloc: Global, kept: &mut KeptZero, rest: &str) -> Answer<String> {
     let newer = schema_of(alloc, rest)?;
-    match kept.alter(alloc, &newer)? {
+    match kept.alter(alloc, newer)? {
         Ok((start, ts)) => Ok(format!(in alloc; "{start} {ts}")?),
         Err(fault) => fault_text(alloc, &fault),
     }
@@ -130,8 +130,8 @@ fn committed(alloc: Global, kept: &mut KeptZero, rest: &str) -> Answer<String> {
     let (author, rest) = halved(rest);
     let (start, rest) = halved(rest);
     let words = words_of(alloc, rest)?;
-    let changes = changes(alloc, words.as_slice())?;
-    match kept.commit(alloc, small(author)?, number(start)?, changes.as_slice())? {
+    let changes = List::from_vec(changes(alloc, words.as_slice())?);
+    match kept.commit(alloc, small(author)?, number(start)?, changes)? {
         Ok(ts) => Ok(ts.to_string(alloc)?),
         Err(fault) => refused_text(alloc, &fault),
     }
@@ -142,10 +142,7 @@ fn refused_text(alloc: Global, fault: &CommitFault) -> Answer<String> {
     match fault {
         CommitFault::OutOfMemory { .. } => told(alloc, "out of memory"),
         CommitFault::Moving { pred } => Ok(format!(in alloc; "moving {pred}")?),
-        CommitFault::Conflict { key, ts } => {
-            let key = key_text(alloc, key)?;
-            Ok(format!(in alloc; "{key} at {ts}")?)
-        }
+        CommitFault::Conflict { text, ts, .. } => Ok(format!(in alloc; "{text} at {ts}")?),
         CommitFault::TimestampsSpent { next, offer } => {
             let offer = offer_text(alloc, offer)?;
             Ok(format!(in alloc; "timestamps spent at {next}: {offer}")?)
@@ -159,12 +156,8 @@ fn asked(alloc: Global, kept: &KeptZero, command: &str, rest: &str) -> Answer<St
         "schema" => schema_text(alloc, kept.zero().schema()),
         "lookup" => truth(alloc, kept.zero().schema().lookup(rest).is_some()),
         "first" => maybe(alloc, kept.zero().first_active()),
-        "has" => truth(alloc, kept.zero().has_triple(alloc, rest)?),
+        "has" => truth(alloc, kept.has_triple(alloc, rest)?),
         "node" => Ok(kept.zero().next_uid().to_string(alloc)?),
-        "leasable" => {
-            let (top, count) = halved(rest);
-            maybe(alloc, kept.zero().leasable(number(top)?, number(count)?))
-        }
         "next" => next(alloc, kept, number(rest)?),
         "objects" => objects(alloc, kept, rest),
         "judge" => judged(alloc, kept, rest),

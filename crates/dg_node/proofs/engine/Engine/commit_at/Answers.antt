@@ -6,19 +6,11 @@ use Rattle.dg_node.specs.declared.engine.Opened.{Opened}
 use Rattle.dg_node.specs.Kept.{Held, IsKept}
 use Rattle.dg_node.proofs.Standing.{Stands, StandFor}
 use Rattle.dg_node.proofs.OneAmong.{around, get_is}
-use Rattle.dg_node.proofs.SessionLemmas.{plain_there, looked_kept, looked_stand}
+use Rattle.dg_node.proofs.SessionLemmas.{looked_kept, looked_stand}
 use Rattle.dg_node.proofs.CommitSteps.{offered, offer_active, offer_sound, offer_made_of, done_kept, done_steps, conflict_kept, conflict_steps, moves_never, spent_reply}
 use Rattle.dg_node.proofs.Leading.{from_all, stays_all, legal_by}
 use Rattle.dg_node.proofs.engine.Engine.commit_at.Goals as goal
-use Rattle.dg_node.proofs.engine.Engine.commit_at.Goals.{in-Err-this-2+in-Conflict+in-Data+in-Some+in-Val+in-Text-1, in-Err-this-2+in-Conflict+in-Data+in-Some+in-Val+in-Int-1, in-Err-this-2+in-Conflict+in-Data+in-Some+in-Uid-1, in-Err-this-2+in-Conflict+in-Data+in-None-1, in-Err-this-2+in-Conflict+in-Index+in-Text-1, in-Err-this-2+in-Conflict+in-Index+in-Int-1, in-Err-this-2+in-Conflict+in-Count-1, in-Err-this-2+in-Conflict+in-RCount-1, in-Err-this-2+in-OutOfMemory-1, in-Ok-3}
-
-pub offer-requires : goal.offer-requires
-offer-requires c =
-    let z = c.self.inside.cluster in
-    let os = c.self.inside.sessions.items in
-    let at : position (λ (o : Opened). o.sid == c.args.sid) os ≡ Some c.args.place = subst (λ (h : Held). position (λ (o : Opened). o.sid == c.args.sid) h.opened ≡ Some c.args.place) (sym c.self.view_is) c.requires.at in
-    let a = around (λ (o : Opened). o.sid) c.args.sid os c.args.place at in
-    record { plain = plain_there z os c.self.invariant c.args.sid c.args.place a c.index.result.now c.index.ensures [] }
+use Rattle.dg_node.proofs.engine.Engine.commit_at.Goals.{in-Err-this-2+in-Conflict-1, in-Err-this-2+in-OutOfMemory-1, in-Ok-3}
 
 pub clash_text-requires-clause-active : goal.clash_text-requires-clause-active
 clash_text-requires-clause-active c =
@@ -107,66 +99,6 @@ invariant_of-self-in-Err-Conflict-3 c =
     subst (IsKept c.commit.new.self) (sym c.remove-in-Err-Conflict.ensures.items)
     (conflict_kept z os c.self.invariant c.args.sid c.args.place a c.index.result.now c.index.ensures c.in_ok-offer.offer of_it c.in_ok-slip.slip c.in_ok-slip.ensures _ c.in-Err-Conflict.ts c.commit.new.self fault.1 c.in-Err-Conflict.ensures.legal)
 
-pub invariant_of-self-in-Err-Conflict-4 : goal.invariant_of-self-in-Err-Conflict-4
-invariant_of-self-in-Err-Conflict-4 c =
-    let z = c.self.inside.cluster in
-    let os = c.self.inside.sessions.items in
-    let at : position (λ (o : Opened). o.sid == c.args.sid) os ≡ Some c.args.place = subst (λ (h : Held). position (λ (o : Opened). o.sid == c.args.sid) h.opened ≡ Some c.args.place) (sym c.self.view_is) c.requires.at in
-    let a = around (λ (o : Opened). o.sid) c.args.sid os c.args.place at in
-    let asked : IfSome (slice_get os c.args.place) (λ (o : Opened). o.txn.own ≢ []) = subst (λ (h : Held). IfSome (slice_get h.opened c.args.place) (λ (o : Opened). o.txn.own ≢ [])) (sym c.self.view_is) c.requires.some in
-    let of_it = offered z os c.self.invariant c.args.sid c.args.place a c.index.result.now c.index.ensures asked c.in_ok-offer.offer c.in_ok-offer.ensures.start c.in_ok-offer.ensures.changes c.in_ok-offer.ensures.made_of c.in_ok-offer.ensures.sound in
-    let fault = rw c.in-Err-Conflict.field-0-is at c.in-Err-Conflict.ensures.fault in
-    subst (IsKept c.commit.new.self) (sym c.remove-in-Err-Conflict.ensures.items)
-    (conflict_kept z os c.self.invariant c.args.sid c.args.place a c.index.result.now c.index.ensures c.in_ok-offer.offer of_it c.in_ok-slip.slip c.in_ok-slip.ensures _ c.in-Err-Conflict.ts c.commit.new.self fault.1 c.in-Err-Conflict.ensures.legal)
-
-pub invariant_of-self-in-Err-Conflict-5 : goal.invariant_of-self-in-Err-Conflict-5
-invariant_of-self-in-Err-Conflict-5 c =
-    let z = c.self.inside.cluster in
-    let os = c.self.inside.sessions.items in
-    let at : position (λ (o : Opened). o.sid == c.args.sid) os ≡ Some c.args.place = subst (λ (h : Held). position (λ (o : Opened). o.sid == c.args.sid) h.opened ≡ Some c.args.place) (sym c.self.view_is) c.requires.at in
-    let a = around (λ (o : Opened). o.sid) c.args.sid os c.args.place at in
-    let asked : IfSome (slice_get os c.args.place) (λ (o : Opened). o.txn.own ≢ []) = subst (λ (h : Held). IfSome (slice_get h.opened c.args.place) (λ (o : Opened). o.txn.own ≢ [])) (sym c.self.view_is) c.requires.some in
-    let of_it = offered z os c.self.invariant c.args.sid c.args.place a c.index.result.now c.index.ensures asked c.in_ok-offer.offer c.in_ok-offer.ensures.start c.in_ok-offer.ensures.changes c.in_ok-offer.ensures.made_of c.in_ok-offer.ensures.sound in
-    let fault = rw c.in-Err-Conflict.field-0-is at c.in-Err-Conflict.ensures.fault in
-    subst (IsKept c.commit.new.self) (sym c.remove-in-Err-Conflict.ensures.items)
-    (conflict_kept z os c.self.invariant c.args.sid c.args.place a c.index.result.now c.index.ensures c.in_ok-offer.offer of_it c.in_ok-slip.slip c.in_ok-slip.ensures _ c.in-Err-Conflict.ts c.commit.new.self fault.1 c.in-Err-Conflict.ensures.legal)
-
-pub invariant_of-self-in-Err-Conflict-6 : goal.invariant_of-self-in-Err-Conflict-6
-invariant_of-self-in-Err-Conflict-6 c =
-    let z = c.self.inside.cluster in
-    let os = c.self.inside.sessions.items in
-    let at : position (λ (o : Opened). o.sid == c.args.sid) os ≡ Some c.args.place = subst (λ (h : Held). position (λ (o : Opened). o.sid == c.args.sid) h.opened ≡ Some c.args.place) (sym c.self.view_is) c.requires.at in
-    let a = around (λ (o : Opened). o.sid) c.args.sid os c.args.place at in
-    let asked : IfSome (slice_get os c.args.place) (λ (o : Opened). o.txn.own ≢ []) = subst (λ (h : Held). IfSome (slice_get h.opened c.args.place) (λ (o : Opened). o.txn.own ≢ [])) (sym c.self.view_is) c.requires.some in
-    let of_it = offered z os c.self.invariant c.args.sid c.args.place a c.index.result.now c.index.ensures asked c.in_ok-offer.offer c.in_ok-offer.ensures.start c.in_ok-offer.ensures.changes c.in_ok-offer.ensures.made_of c.in_ok-offer.ensures.sound in
-    let fault = rw c.in-Err-Conflict.field-0-is at c.in-Err-Conflict.ensures.fault in
-    subst (IsKept c.commit.new.self) (sym c.remove-in-Err-Conflict.ensures.items)
-    (conflict_kept z os c.self.invariant c.args.sid c.args.place a c.index.result.now c.index.ensures c.in_ok-offer.offer of_it c.in_ok-slip.slip c.in_ok-slip.ensures _ c.in-Err-Conflict.ts c.commit.new.self fault.1 c.in-Err-Conflict.ensures.legal)
-
-pub invariant_of-self-in-Err-Conflict-7 : goal.invariant_of-self-in-Err-Conflict-7
-invariant_of-self-in-Err-Conflict-7 c =
-    let z = c.self.inside.cluster in
-    let os = c.self.inside.sessions.items in
-    let at : position (λ (o : Opened). o.sid == c.args.sid) os ≡ Some c.args.place = subst (λ (h : Held). position (λ (o : Opened). o.sid == c.args.sid) h.opened ≡ Some c.args.place) (sym c.self.view_is) c.requires.at in
-    let a = around (λ (o : Opened). o.sid) c.args.sid os c.args.place at in
-    let asked : IfSome (slice_get os c.args.place) (λ (o : Opened). o.txn.own ≢ []) = subst (λ (h : Held). IfSome (slice_get h.opened c.args.place) (λ (o : Opened). o.txn.own ≢ [])) (sym c.self.view_is) c.requires.some in
-    let of_it = offered z os c.self.invariant c.args.sid c.args.place a c.index.result.now c.index.ensures asked c.in_ok-offer.offer c.in_ok-offer.ensures.start c.in_ok-offer.ensures.changes c.in_ok-offer.ensures.made_of c.in_ok-offer.ensures.sound in
-    let fault = rw c.in-Err-Conflict.field-0-is at c.in-Err-Conflict.ensures.fault in
-    subst (IsKept c.commit.new.self) (sym c.remove-in-Err-Conflict.ensures.items)
-    (conflict_kept z os c.self.invariant c.args.sid c.args.place a c.index.result.now c.index.ensures c.in_ok-offer.offer of_it c.in_ok-slip.slip c.in_ok-slip.ensures _ c.in-Err-Conflict.ts c.commit.new.self fault.1 c.in-Err-Conflict.ensures.legal)
-
-pub invariant_of-self-in-Err-Conflict-8 : goal.invariant_of-self-in-Err-Conflict-8
-invariant_of-self-in-Err-Conflict-8 c =
-    let z = c.self.inside.cluster in
-    let os = c.self.inside.sessions.items in
-    let at : position (λ (o : Opened). o.sid == c.args.sid) os ≡ Some c.args.place = subst (λ (h : Held). position (λ (o : Opened). o.sid == c.args.sid) h.opened ≡ Some c.args.place) (sym c.self.view_is) c.requires.at in
-    let a = around (λ (o : Opened). o.sid) c.args.sid os c.args.place at in
-    let asked : IfSome (slice_get os c.args.place) (λ (o : Opened). o.txn.own ≢ []) = subst (λ (h : Held). IfSome (slice_get h.opened c.args.place) (λ (o : Opened). o.txn.own ≢ [])) (sym c.self.view_is) c.requires.some in
-    let of_it = offered z os c.self.invariant c.args.sid c.args.place a c.index.result.now c.index.ensures asked c.in_ok-offer.offer c.in_ok-offer.ensures.start c.in_ok-offer.ensures.changes c.in_ok-offer.ensures.made_of c.in_ok-offer.ensures.sound in
-    let fault = rw c.in-Err-Conflict.field-0-is at c.in-Err-Conflict.ensures.fault in
-    subst (IsKept c.commit.new.self) (sym c.remove-in-Err-Conflict.ensures.items)
-    (conflict_kept z os c.self.invariant c.args.sid c.args.place a c.index.result.now c.index.ensures c.in_ok-offer.offer of_it c.in_ok-slip.slip c.in_ok-slip.ensures _ c.in-Err-Conflict.ts c.commit.new.self fault.1 c.in-Err-Conflict.ensures.legal)
-
 pub invariant_of-self-in-Moving-1 : goal.invariant_of-self-in-Moving-1
 invariant_of-self-in-Moving-1 c =
     let z = c.self.inside.cluster in
@@ -213,7 +145,7 @@ returns-in-Err-Conflict-clause-ok c = from_all (legal_by c.self.view_is c.self.i
     let stood : StandFor z os m = subst (λ (h : Held). Stands h m) (sym c.self.view_is) s in
     let fault = rw c.in-Err-Conflict.field-0-is at c.in-Err-Conflict.ensures.fault in
     let steps = conflict_steps z os c.self.invariant c.args.sid c.args.place a c.index.result.now c.index.ensures c.in_ok-offer.offer of_it c.in_ok-slip.slip c.in_ok-slip.ensures _ c.in-Err-Conflict.ts c.in_ok-key.key c.commit.new.self m fault.1 c.in_ok-key.ensures fault.0 some stood in
-    let after : c.match-this-2.self ≡ record { zero = c.commit.new.self; opened = c.remove-in-Err-Conflict.new.self.items } = elim c.match-this-2.branch [ in-Err-this-2+in-Conflict+in-Data+in-Some+in-Val+in-Text-1 w ↦ w.self-is | in-Err-this-2+in-Conflict+in-Data+in-Some+in-Val+in-Int-1 w ↦ w.self-is | in-Err-this-2+in-Conflict+in-Data+in-Some+in-Uid-1 w ↦ w.self-is | in-Err-this-2+in-Conflict+in-Data+in-None-1 w ↦ w.self-is | in-Err-this-2+in-Conflict+in-Index+in-Text-1 w ↦ w.self-is | in-Err-this-2+in-Conflict+in-Index+in-Int-1 w ↦ w.self-is | in-Err-this-2+in-Conflict+in-Count-1 w ↦ w.self-is | in-Err-this-2+in-Conflict+in-RCount-1 w ↦ w.self-is | in-Err-this-2+in-OutOfMemory-1 w ↦ w.self-is | in-Ok-3 w ↦ w.self-is ] in
+    let after : c.match-this-2.self ≡ record { zero = c.commit.new.self; opened = c.remove-in-Err-Conflict.new.self.items } = elim c.match-this-2.branch [ in-Err-this-2+in-Conflict-1 w ↦ w.self-is | in-Err-this-2+in-OutOfMemory-1 w ↦ w.self-is | in-Ok-3 w ↦ w.self-is ] in
     let moved : StandFor c.commit.new.self c.remove-in-Err-Conflict.new.self.items steps.0 = subst (λ (l : List Opened). StandFor c.commit.new.self l steps.0) (sym c.remove-in-Err-Conflict.ensures.items) steps.2 in
     (steps.0, steps.1, subst (λ (h : Held). Stands h steps.0) (sym after) moved))
 

@@ -6,24 +6,18 @@ use Rattle.dg_node.specs.Kept.{Held}
 use Rattle.dg_node.specs.Machine.{Machine, with_changes}
 use Rattle.dg_node.specs.State.{Leads}
 use Rattle.dg_node.proofs.OneAmong.{around, get_is, it_is}
-use Rattle.dg_node.proofs.SessionLemmas.{plain_there, taken_kept, taken_stands}
+use Rattle.dg_node.proofs.SessionLemmas.{taken_kept, taken_stands}
 use Rattle.dg_node.proofs.engine.Engine.take.Goals as goal
 
-pub add-requires-clause-plain : goal.add-requires-clause-plain
-add-requires-clause-plain c =
-    let os = c.self.inside.sessions.items in
-    let here : position (λ (o : Opened). o.sid == c.args.sid) os ≡ Some c.args.place = subst (λ (h : Held). position (λ (o : Opened). o.sid == c.args.sid) h.opened ≡ Some c.args.place) (sym c.self.view_is) c.requires.at in
-    plain_there c.self.inside.cluster os c.self.invariant c.args.sid c.args.place (around (λ (o : Opened). o.sid) c.args.sid os c.args.place here) c.index_mut.result.now c.index_mut.ensures.value c.args.changes.items
-
-pub add-requires-clause-fitting : goal.add-requires-clause-fitting
-add-requires-clause-fitting c =
+pub add-requires : goal.add-requires
+add-requires c =
     let os = c.self.inside.sessions.items in
     let here : position (λ (o : Opened). o.sid == c.args.sid) os ≡ Some c.args.place = subst (λ (h : Held). position (λ (o : Opened). o.sid == c.args.sid) h.opened ≡ Some c.args.place) (sym c.self.view_is) c.requires.at in
     let a = around (λ (o : Opened). o.sid) c.args.sid os c.args.place here in
     let it : c.index_mut.result.now ≡ a.it = it_is (λ (o : Opened). o.sid) c.args.sid os c.args.place a c.index_mut.result.now c.index_mut.ensures.value in
     let asked : IfSome (slice_get os c.args.place) (λ (o : Opened). AreFitting o.txn.schema c.args.changes.items) = subst (λ (h : Held). IfSome (slice_get h.opened c.args.place) (λ (o : Opened). AreFitting o.txn.schema c.args.changes.items)) (sym c.self.view_is) c.requires.fitting in
     let fit : AreFitting a.it.txn.schema c.args.changes.items = subst (λ (x : Option Opened). IfSome x (λ (o : Opened). AreFitting o.txn.schema c.args.changes.items)) (get_is (λ (o : Opened). o.sid) c.args.sid os c.args.place a) asked in
-    subst (λ (o : Opened). AreFitting o.txn.schema c.args.changes.items) (sym it) fit
+    record { fitting = subst (λ (o : Opened). AreFitting o.txn.schema c.args.changes.items) (sym it) fit }
 
 pub invariant_of-self : goal.invariant_of-self
 invariant_of-self c =

@@ -7,7 +7,7 @@ use Rattle.dg_node.specs.Clusters.{Meets, AltersAt, IsAlterFault}
 use Rattle.dg_node.proofs.AlterLemmas.{kinds_kept}
 use Rattle.dg_node.proofs.ClusterFaults.{alter_fault}
 use Rattle.dg_node.proofs.Keeping.{looked_owned, altered_owned}
-use Rattle.dg_node.proofs.Serving.{meets_here}
+use Rattle.dg_node.proofs.Alone.{meets_here}
 use Rattle.dg_node.proofs.owned.OwnedCluster.alter.Goals.{in-Ok-alter, in-Err-alter}
 use Rattle.dg_node.proofs.owned.OwnedCluster.alter.Goals as goal
 
@@ -22,7 +22,7 @@ alter-requires-clause-kinds c =
     kinds_kept (schema z.history) (world z.history).graph c.args.newer.now free
 
 pub invariant_of-self-2 : goal.invariant_of-self-2
-invariant_of-self-2 c = altered_owned c.entries_of_histories.ensures.keep_alters c.self.inside.zero c.alter.new.self c.self.inside.groups.items c.args.slip c.args.newer.now c.in-Ok.parts c.alter.result c.self.invariant c.requires.plain c.alter.ensures.ok c.alter.ensures.err c.alter.ensures.legal
+invariant_of-self-2 c = altered_owned c.entries_of_histories.ensures.keep_alters c.self.inside.zero c.alter.new.self c.self.inside.groups.items c.args.slip c.args.newer.now c.in-Ok.parts c.alter.result c.self.invariant c.alter.ensures.ok c.alter.ensures.err c.alter.ensures.legal
 
 pub returns-clause-alters : goal.returns-clause-alters
 returns-clause-alters c =

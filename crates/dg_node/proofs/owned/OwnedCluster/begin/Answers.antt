@@ -5,8 +5,8 @@ use Rattle.dg_zero.specs.States.{Zero}
 use Rattle.dg_node.specs.declared.cluster.ClusterFault.{ClusterFault}
 use Rattle.dg_node.specs.Clusters.{Meets, BeginsAt, IsBeginFault}
 use Rattle.dg_node.proofs.ClusterFaults.{begin_fault}
-use Rattle.dg_node.proofs.Keeping.{looked_owned, begun_owned, pins_of_begun, present_plain}
-use Rattle.dg_node.proofs.Serving.{meets_here}
+use Rattle.dg_node.proofs.Keeping.{looked_owned, begun_owned, pins_of_begun}
+use Rattle.dg_node.proofs.Alone.{meets_here}
 use Rattle.dg_node.proofs.owned.OwnedCluster.begin.Goals.{in-Ok-begin, in-Err}
 use Rattle.dg_node.proofs.owned.OwnedCluster.begin.Goals as goal
 
@@ -24,7 +24,6 @@ returns-clause-begins c = subst (λ (z : Zero). Meets (λ n. true) z c.begin.new
         schema_is = w.in-Ok-begin.ensures.schema;
         owners_are = w.in-Ok-begin.ensures.owners;
         pins = pins_of_begun c.self.inside.zero c.begin.new.self c.in-Ok.pins.items c.args.slip c.self.invariant.least c.in-Ok.ensures.pins w.in-Ok-begin.ensures.ok w.in-Ok-begin.ensures.legal;
-        plain = present_plain c.self.inside.zero c.self.inside.groups.items c.self.invariant;
         ok = w.in-Ok-begin.ensures.ok;
         not_spent = w.in-Ok-begin.ensures.not_spent;
         fault = tt;
@@ -35,7 +34,6 @@ returns-clause-begins c = subst (λ (z : Zero). Meets (λ n. true) z c.begin.new
         schema_is = tt;
         owners_are = tt;
         pins = tt;
-        plain = tt;
         ok = tt;
         not_spent = tt;
         fault = subst (λ (f : ClusterFault). IsBeginFault c.self.inside.zero.history f) (sym w.from.ensures) (begin_fault c.self.inside.zero.history w.in-Err.fault w.in-Err.ensures.fault);

@@ -2,7 +2,7 @@ use Rattle.std.proofs.Common.{true, subst}
 use Rattle.dg_zero.specs.States.{Zero}
 use Rattle.dg_node.specs.Clusters.{Meets, CommitsAt}
 use Rattle.dg_node.proofs.Keeping.{committed_owned}
-use Rattle.dg_node.proofs.Serving.{meets_here}
+use Rattle.dg_node.proofs.Alone.{meets_here}
 use Rattle.dg_node.proofs.owned.OwnedCluster.commit.Goals as goal
 
 pub invariant_of-self : goal.invariant_of-self

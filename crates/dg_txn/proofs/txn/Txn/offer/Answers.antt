@@ -4,7 +4,7 @@ use Rattle.dg_keys.specs.declared.record.Part.{Part}
 use Rattle.dg_graph.specs.declared.change.Change.{Change}
 use Rattle.dg_zero.specs.Listings.{conflict_keys}
 use Rattle.dg_zero.specs.Offers.{IsSound, IsMadeOf}
-use Rattle.dg_edges.specs.Deltas.{preds_of, IsPlain}
+use Rattle.dg_edges.specs.Deltas.{preds_of}
 use Rattle.dg_txn.specs.Own.{Transaction}
 use Rattle.dg_txn.proofs.OneOffer.{own_sound, own_made}
 use Rattle.dg_txn.proofs.txn.Txn.offer.Goals as goal
@@ -14,9 +14,8 @@ returns-clause-sound c = λ some.
     let schema = c.self.inside.base.schema in
     let base = c.self.inside.base.graph in
     let own = c.self.inside.own.items in
-    let plain : IsPlain schema = subst (λ (t : Transaction). IsPlain t.schema) (sym c.self.view_is) c.requires.plain in
     let is_some : own ≢ [] = subst (λ (t : Transaction). t.own ≢ []) (sym c.self.view_is) some in
-    let sound = own_sound schema base own c.self.inside.gains is_some plain c.self.invariant in
+    let sound = own_sound schema base own c.self.inside.gains is_some c.self.invariant in
     let preds : preds_of own ≡ c.from_vec.result = sym (c.from_vec.ensures ∙ (c.in_ok-preds_of.ensures ∙ ap preds_of c.as_slice-own.ensures.value)) in
     let keys : conflict_keys schema base own ≡ c.from_vec-2.result = sym (c.from_vec-2.ensures ∙ (c.in_ok-keys.ensures ∙ ap (conflict_keys schema base) c.as_slice-own.ensures.value)) in
     let same : c.self.inside.gains ≡ c.from_vec-4.result = sym (c.from_vec-4.ensures ∙ c.in_ok-parts.ensures) in
@@ -30,8 +29,7 @@ returns-clause-made_of c =
     let schema = c.self.inside.base.schema in
     let base = c.self.inside.base.graph in
     let own = c.self.inside.own.items in
-    let plain : IsPlain schema = subst (λ (t : Transaction). IsPlain t.schema) (sym c.self.view_is) c.requires.plain in
-    let made = own_made schema base own c.self.inside.gains plain c.self.invariant in
+    let made = own_made schema base own c.self.inside.gains c.self.invariant in
     let changes : own ≡ c.from_vec-3.result = sym (c.from_vec-3.ensures ∙ (c.in_ok-copies.ensures ∙ c.as_slice-own.ensures.value)) in
     let keys : conflict_keys schema base own ≡ c.from_vec-2.result = sym (c.from_vec-2.ensures ∙ (c.in_ok-keys.ensures ∙ ap (conflict_keys schema base) c.as_slice-own.ensures.value)) in
     let same : c.self.inside.gains ≡ c.from_vec-4.result = sym (c.from_vec-4.ensures ∙ c.in_ok-parts.ensures) in

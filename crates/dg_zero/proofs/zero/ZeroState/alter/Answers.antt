@@ -1,4 +1,4 @@
-use Rattle.std.proofs.Common.{◌≡◌, ◌∙◌, ◌+◌, ◌<◌, ◌^◌, ap, arith, rules}
+use Rattle.std.proofs.Common.{◌≡◌, ◌∙◌, ◌+◌, ◌<◌, ◌^◌, ap, arith}
 use Rattle.std.specs.Arc.{arc_value}
 use Rattle.dg_keys.specs.declared.record.Record.{Record}
 use Rattle.dg_zero.specs.Counters.{next}
@@ -26,7 +26,7 @@ invariant_of-self-in-Ok-added c =
     let at : c.self.inside.oracle.next ≡ next c.args.self.now.history = c.self.invariant.next_is ∙ ap (λ (z : Zero). next z.history) c.self.view_is in
     let below : c.self.inside.oracle.next + 1 < 2 ^ 62 = omega (arith, at, c.in-Ok.ensures.not_spent) in
     let written : Record = record { ts = c.draw-start.result.1; fresh = c.in-Ok.altered.fresh; parts = c.args.parts } in
-    let past_is : entries c.append_with.new.past ≡ and_entry (entries c.self.inside.past) c.args.slip (Alter c.draw-start.result.0 c.in-Ok.altered.newer written) = c.append_with.ensures ∙ (λ i. and_entry (c.alter_room.ensures.same i) c.args.slip (c.altered_what-what.ensures.event written i)) in
+    let past_is : entries c.append_with.new.past ≡ and_entry (entries c.self.inside.past) c.args.slip (Alter c.draw-start.result.0 c.in-Ok.altered.newer written) = c.append_with.ensures ∙ (λ i. and_entry (c.alter_room.ensures.same i) c.args.slip (c.altered_what-what.ensures.event (entries c.alter_room.new.past) written i)) in
     altered_keeps c.self.inside.groups c.self.inside.oracle c.self.inside.next_uid (arc_value c.self.inside.schema) c.self.inside.tablets.items (arc_value c.self.inside.owners) (entries c.self.inside.past) c.args.self.now (ap (λ (z : Zero). z.groups) c.self.view_is) (ap (λ (z : Zero). z.history) c.self.view_is) c.args.slip c.self.invariant c.args.newer.now c.args.parts c.in-Ok.altered c.draw-start.result.0 c.draw-start.result.1 c.draw-start.new.oracle (arc_value c.add_all-added.new.schema) c.add_all-added.new.tablets.items (arc_value c.add_all-added.new.owners) (entries c.append_with.new.past) c.in-Ok.ensures.ok c.requires.author c.in-Ok.ensures.none_active below c.requires.kinds c.requires.parts c.draw-start.ensures.start c.draw-start.ensures.ts c.draw-start.ensures.drawn c.in-Ok-added.ensures.schema c.in-Ok-added.ensures.tablets c.in-Ok-added.ensures.owners past_is
 
 pub invariant_of-self-in-Err-added : goal.invariant_of-self-in-Err-added
@@ -41,7 +41,7 @@ returns-in-Ok-added-clause-legal c =
     let at : c.self.inside.oracle.next ≡ next c.args.self.now.history = c.self.invariant.next_is ∙ ap (λ (z : Zero). next z.history) c.self.view_is in
     let below : c.self.inside.oracle.next + 1 < 2 ^ 62 = omega (arith, at, c.in-Ok.ensures.not_spent) in
     let written : Record = record { ts = c.draw-start.result.1; fresh = c.in-Ok.altered.fresh; parts = c.args.parts } in
-    let past_is : entries c.append_with.new.past ≡ and_entry (entries c.self.inside.past) c.args.slip (Alter c.draw-start.result.0 c.in-Ok.altered.newer written) = c.append_with.ensures ∙ (λ i. and_entry (c.alter_room.ensures.same i) c.args.slip (c.altered_what-what.ensures.event written i)) in
+    let past_is : entries c.append_with.new.past ≡ and_entry (entries c.self.inside.past) c.args.slip (Alter c.draw-start.result.0 c.in-Ok.altered.newer written) = c.append_with.ensures ∙ (λ i. and_entry (c.alter_room.ensures.same i) c.args.slip (c.altered_what-what.ensures.event (entries c.alter_room.new.past) written i)) in
     (altered_keeps c.self.inside.groups c.self.inside.oracle c.self.inside.next_uid (arc_value c.self.inside.schema) c.self.inside.tablets.items (arc_value c.self.inside.owners) (entries c.self.inside.past) c.args.self.now (ap (λ (z : Zero). z.groups) c.self.view_is) (ap (λ (z : Zero). z.history) c.self.view_is) c.args.slip c.self.invariant c.args.newer.now c.args.parts c.in-Ok.altered c.draw-start.result.0 c.draw-start.result.1 c.draw-start.new.oracle (arc_value c.add_all-added.new.schema) c.add_all-added.new.tablets.items (arc_value c.add_all-added.new.owners) (entries c.append_with.new.past) c.in-Ok.ensures.ok c.requires.author c.in-Ok.ensures.none_active below c.requires.kinds c.requires.parts c.draw-start.ensures.start c.draw-start.ensures.ts c.draw-start.ensures.drawn c.in-Ok-added.ensures.schema c.in-Ok-added.ensures.tablets c.in-Ok-added.ensures.owners past_is).legal
 
 pub returns-in-Err-added-clause-legal : goal.returns-in-Err-added-clause-legal

@@ -1,0 +1,9 @@
+-- Lemmas on filters and indexes.
+pub mod PassLaws
+pub mod TestLaws
+pub mod VarLaws
+pub mod IndexLaws
+pub mod FilterLaws
+pub mod RootLaws
+pub mod EqualLaws
+pub mod TermLaws

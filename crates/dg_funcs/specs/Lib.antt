@@ -1,0 +1,5 @@
+-- Where functions and filters hold, and the nodes that a function gives at a root.
+pub mod Truth
+pub mod Roots
+pub mod Tests
+pub mod Equal

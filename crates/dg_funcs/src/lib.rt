@@ -1,0 +1,21 @@
+//! Functions and filters of plans: where they hold, and which nodes a function gives at a root.
+#![tactic(auto)]
+
+mod anyterms;
+mod asked;
+mod comparing;
+mod equal;
+mod filtering;
+mod following;
+mod held;
+mod indexes;
+mod matching;
+mod roots;
+mod terms;
+mod variables;
+
+pub use asked::Asked;
+pub use equal::equal_by_index;
+pub use filtering::{holds, passing};
+pub use roots::root;
+pub use variables::{named, value_at};

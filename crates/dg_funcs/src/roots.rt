@@ -1,0 +1,218 @@
+// The nodes that a function gives at a root.
+ghost use Rattle.std.specs.Prelude.{◌≡◌, ◌++◌, Option, option_to_list, filter_map, IfOk, OnOk};
+ghost use Rattle.dg_graph.specs.Graphs.{objects};
+ghost use Rattle.dg_graph.specs.Lookups.{node_in, pointed_to};
+ghost use Rattle.dg_values.specs.declared.kind.Kind.{Kind};
+ghost use Rattle.dg_parse.specs.declared.query.CmpOp.TheVariants as ops;
+ghost use Rattle.dg_check.specs.declared.parts.Func.TheVariants as funcs;
+ghost use Rattle.dg_check.specs.declared.parts.Of.TheVariants as part;
+ghost use Rattle.dg_check.specs.Vars.{nodes_of};
+ghost use Rattle.dg_funcs.specs.Roots.{nodes_with, nodes_of_part, candidates, root_nodes};
+
+use crate::anyterms::root_of_any_term;
+use crate::equal::equal_by_index;
+use crate::held::held;
+use crate::indexes::whole_index;
+use crate::named;
+use dg_check::{Func, Of, Vars};
+use dg_graph::Snapshot;
+use dg_parse::{CmpOp, QEdge};
+use dg_uids::Uids;
+use dg_values::{Mem, OutOfMemory, Posting, Steps, Value};
+use std::alloc::Global;
+use std::sync::ledger::Ledger;
+
+// Adds the node that an object is.
+fn add_node(found: &mut Vec<u64>, object: &Posting) -> Mem<()>
+    ensures { OnOk result (found.new.items ≡ found.old.items ++ option_to_list (node_in object.now)) }
+{
+    match object {
+        Posting::Uid(n) => found.push(*n)?,
+        Posting::Val(_) => {}
+    }
+    Ok(())
+}
+
+// The nodes among objects.
+fn nodes_among(alloc: Global, objects: &[Posting]) -> Mem<Vec<u64>>
+    ensures { IfOk result (λ v. v.items ≡ filter_map node_in objects.now) }
+{
+    let mut found = Vec::new(alloc);
+    for object in objects {
+        add_node(&mut found, object)?;
+    }
+    Ok(found)
+}
+
+// The nodes to which a subject points.
+fn ends_of<S: Snapshot, L: Ledger>(
+    alloc: Global,
+    snap: &S,
+    p: &str,
+    subject: u64,
+    reads: &mut Steps<L>,
+) -> Mem<Vec<u64>>
+    ensures { IfOk result (λ v. v.items ≡ filter_map node_in (objects (S.graph snap.now) p.now subject)) }
+{
+    let objects = snap.objects(alloc, p, subject, reads)?;
+    nodes_among(alloc, objects.as_slice())
+}
+
+// The nodes that any subject points to, found by going over all that have an object.
+fn pointed_to<S: Snapshot, L: Ledger>(
+    alloc: Global,
+    snap: &S,
+    p: &str,
+    reads: &mut Steps<L>,
+) -> Mem<Uids>
+    ensures { IfOk result (λ uids. uids ≡ pointed_to (S.graph snap.now) p.now) }
+{
+    let all = snap.holders(alloc, p, reads)?;
+    let mut found = Vec::new(alloc);
+    for subject in all.as_slice() {
+        let ends = ends_of(alloc, snap, p, *subject, reads)?;
+        found.extend_from_slice(ends.as_slice())?;
+    }
+    Ok(Uids::gathered(found))
+}
+
+// The nodes that have an object by an edge, or to which a subject points.
+fn nodes_with<S: Snapshot, L: Ledger>(
+    alloc: Global,
+    snap: &S,
+    edge: &QEdge,
+    reads: &mut Steps<L>,
+) -> Mem<Uids>
+    ensures { IfOk result (λ uids. uids ≡ nodes_with (S.graph snap.now) edge.now) }
+{
+    if edge.back {
+        pointed_to(alloc, snap, edge.pred.as_str(), reads)
+    } else {
+        snap.holders(alloc, edge.pred.as_str(), reads)
+    }
+}
+
+// The nodes of the variable at a place.
+fn copy_of(alloc: Global, vars: &Vars, place: usize) -> Mem<Uids>
+    ensures { IfOk result (λ uids. uids ≡ nodes_of vars.now.variables place) }
+{
+    match vars.variables.as_slice().get(place) {
+        Some(v) => v.nodes.copy(alloc),
+        None => Ok(Uids::gathered(Vec::new(alloc))),
+    }
+}
+
+// The nodes of which a comparison is asked.
+fn nodes_of_part<S: Snapshot, L: Ledger>(
+    alloc: Global,
+    snap: &S,
+    of: &Of,
+    vars: &Vars,
+    reads: &mut Steps<L>,
+) -> Mem<Uids>
+    ensures { IfOk result (λ uids. uids ≡ nodes_of_part (S.graph snap.now) vars.now.variables of.now) }
+{
+    match of {
+        Of::Pred(p) => snap.holders(alloc, p.as_str(), reads),
+        Of::Count(edge) => nodes_with(alloc, snap, edge, reads),
+        Of::Val(place) => copy_of(alloc, vars, *place),
+    }
+}
+
+// The nodes of which a function is asked.
+fn candidates<S: Snapshot, L: Ledger>(
+    alloc: Global,
+    snap: &S,
+    func: &Func,
+    vars: &Vars,
+    reads: &mut Steps<L>,
+) -> Mem<Uids>
+    ensures { IfOk result (λ uids. uids ≡ candidates (S.graph snap.now) vars.now.variables func.now) }
+{
+    match func {
+        Func::Uid(names) => named(alloc, vars, names.as_slice()),
+        Func::Cmp { of, .. } => nodes_of_part(alloc, snap, of, vars, reads),
+        Func::Between { of, .. } => nodes_of_part(alloc, snap, of, vars, reads),
+        Func::Has(edge) => nodes_with(alloc, snap, edge, reads),
+        Func::Terms { pred, .. } => snap.holders(alloc, pred.as_str(), reads),
+        Func::Regexp { pred, .. } => snap.holders(alloc, pred.as_str(), reads),
+        Func::UidIn { edge, .. } => nodes_with(alloc, snap, edge, reads),
+    }
+}
+
+/// Those of them at which it holds, each asked.
+pub(crate) fn root_by_search<S: Snapshot, L: Ledger>(
+    alloc: Global,
+    snap: &S,
+    func: &Func,
+    vars: &Vars,
+    reads: &mut Steps<L>,
+) -> Mem<Uids>
+    ensures { IfOk result (λ uids. uids ≡ root_nodes (S.graph snap.now) vars.now.variables func.now) }
+{
+    let nodes = candidates(alloc, snap, func, vars, reads)?;
+    held(alloc, snap, func, &nodes, vars, reads)
+}
+
+// The nodes that have a value equal to one of these: by an index under which they are filed, where there is one.
+fn root_of_equal<S: Snapshot, L: Ledger>(
+    alloc: Global,
+    snap: &S,
+    func: &Func,
+    p: &str,
+    values: &[Value],
+    vars: &Vars,
+    reads: &mut Steps<L>,
+) -> Mem<Uids>
+    requires equal { (kind : Option Kind) × (func.now ≡ funcs.Cmp ops.Eq (part.Pred p.now) kind values.now) }
+    ensures { IfOk result (λ uids. uids ≡ root_nodes (S.graph snap.now) vars.now.variables func.now) }
+{
+    match whole_index(snap, p, values) {
+        Some(tokenizer) => equal_by_index(alloc, snap, p, tokenizer, values, reads),
+        None => root_by_search(alloc, snap, func, vars, reads),
+    }
+}
+
+/// The nodes that a function gives at a root. The error is want of memory.
+///
+/// An index is asked for `eq` of a predicate with an exact, hash, int or bool one, and for `anyofterms`; `uid` and `has`
+/// need no truth of a node. For all else each candidate is asked.
+pub fn root<S: Snapshot, L: Ledger>(
+    alloc: Global,
+    snap: &S,
+    func: &Func,
+    vars: &Vars,
+    reads: &mut Steps<L>,
+) -> Mem<Uids>
+    ensures { IfOk result (λ uids. uids ≡ root_nodes (S.graph snap.now) vars.now.variables func.now) }
+{
+    match func {
+        Func::Uid(names) => named(alloc, vars, names.as_slice()),
+        Func::Has(edge) => nodes_with(alloc, snap, edge, reads),
+        Func::Cmp { op, of, values, .. } => match op {
+            CmpOp::Eq => match of {
+                Of::Pred(p) => {
+                    root_of_equal(
+                        alloc,
+                        snap,
+                        func,
+                        p.as_str(),
+                        values.as_slice(),
+                        vars,
+                        reads,
+                    )
+                }
+                _ => root_by_search(alloc, snap, func, vars, reads),
+            },
+            _ => root_by_search(alloc, snap, func, vars, reads),
+        },
+        Func::Terms { all, pred, text } => {
+            if *all {
+                root_by_search(alloc, snap, func, vars, reads)
+            } else {
+                root_of_any_term(alloc, snap, func, pred.as_str(), text, vars, reads)
+            }
+        }
+        _ => root_by_search(alloc, snap, func, vars, reads),
+    }
+}

@@ -1,0 +1,8 @@
+use Rattle.std.proofs.Common.{◌≡◌, map, take}
+use Rattle.std.specs.Prelude.{◌&&◌, filter}
+use Rattle.dg_graph.specs.Graphs.{is_of}
+use Rattle.dg_graph.specs.Lookups.{has_token}
+use Rattle.dg_graph.proofs.indexed.by_token.Given as goal
+
+abbrev pub invariant-loop-triple : goal.invariant-loop-triple
+invariant-loop-triple l = l.found.items ≡ map (λ t. t.s) (filter (λ t. is_of l.p t && has_token l.token t.o) (take l.triple-index l.triples))

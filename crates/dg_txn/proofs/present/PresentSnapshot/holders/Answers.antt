@@ -1,0 +1,5 @@
+use Rattle.std.proofs.Common.{[]}
+use Rattle.dg_txn.proofs.present.PresentSnapshot.holders.Goals as goal
+
+pub returns-clause-nodes : goal.returns-clause-nodes
+returns-clause-nodes g c = c.holders.ensures.nodes [] c.in_ok-gains.ensures
