@@ -256,13 +256,18 @@ class View:
         if word == "uid_in":
             return self.leads_to(of, node, values)  # type: ignore[arg-type]
         if word in TERMS:
-            asked = set(terms(values[0]))
-            least = len(asked) if word == "allofterms" else 1
-            return bool(asked) and any(len(asked & set(terms(text))) >= least for text in self.texts(of, node))  # type: ignore[arg-type]
+            return self.has_terms(function, node)
         if word == "regexp":
             pattern = pattern_of(values[0], folds)
             return any(pattern.is_in(text) for text in self.texts(of, node))  # type: ignore[arg-type]
         return self.is_compared(function, node)
+
+    def has_terms(self, function: Function, node: int) -> bool:
+        """Whether one of a node's texts has one of the terms, or all."""
+        assert isinstance(function.of, str)
+        asked = set(terms(function.values[0]))
+        least = len(asked) if function.word == "allofterms" else 1
+        return bool(asked) and any(len(asked & set(terms(text))) >= least for text in self.texts(function.of, node))
 
     def leads_to(self, edge: Edge, node: int, nodes: list[int]) -> bool:
         """Whether one of the nodes is at the other end of an edge."""
@@ -295,8 +300,8 @@ class View:
         """The nodes of a root, ascending: those that are named, or those with something there where it holds."""
         if function.word == "uid":
             return sorted(set(function.values))
-        of = function.of
-        edge = of.edge if isinstance(of, Count) else of if isinstance(of, Edge) else Edge(False, of)  # type: ignore[arg-type]
+        of = function.of.edge if isinstance(function.of, Count) else function.of
+        edge = of if isinstance(of, Edge) else Edge(False, of)  # type: ignore[arg-type]
         ends = {posting.key if edge.back else subject for subject, posting in self.triples(edge.predicate)}
         return [node for node in sorted(ends) if self.holds(function, node)]  # type: ignore[arg-type, type-var]
 

@@ -50,8 +50,8 @@ class Val(NamedTuple):
 
 
 class Function(NamedTuple):
-    """A function: its word, what it is asked of (nothing for `uid`), and what stands behind that: the texts of literals,
-    of terms or of a pattern, or nodes (numbers) and variables (names)."""
+    """A function: its word, what it is asked of (nothing for `uid`), and what stands behind that: texts of literals, of
+    terms or of a pattern, or nodes (numbers) and variables (names)."""
 
     word: str
     of: Union[str, Edge, Count, Val, None]

@@ -8,11 +8,12 @@
 where the program does otherwise than `plain_machine.py`; it shows the request and both replies. `print`
 writes one of them. Most requests are sound; some statements have a fault, and some bodies and scripts
 a byte more, less or in the place of another. Predicates have directives, which change over data, and
-queries ask by every function, filter and form, over own changes too. In a third of the scripts many sessions write at once: a few nodes, lists whose values share tokens, or a node
-each and the same values or edges. So many commits meet a conflict: of a hundred scripts or more, one
-reply in fifty has to be one, and one in two thousand by each kind of key, or `compare` ends with 1. Where
-no first number is given it follows from the day, so that no two days have the same scripts; the numbers
-are printed. It needs Python 3.9 or later.
+queries ask by every function, filter and form, also over own changes. In a third of the scripts many
+sessions write at once: a few nodes, lists whose values share tokens, or a node each and the same values
+or edges. So many commits meet a conflict: of a hundred scripts or more, one reply in fifty has to be one,
+and one in two thousand by each kind of key, or `compare` ends with 1. Where no first number is given it
+follows from the day, so that no two days have the same scripts; the numbers are printed. It needs Python
+3.9 or later.
 """
 
 from __future__ import annotations
@@ -95,8 +96,8 @@ PATTERNS = ["red", "^R", "d$", "r.d", "[a-c]a", "[^a-z ]", "ca?r", "o*x", "é", 
 PATTERNS += ["カ", r"\/", "^$", "[A-C]+", "s", "k", "5½ ?Ⅷ", "."]
 BAD_PATTERNS = ["(", ")", "[a", "*a", "a)", r"a\1", "a(b"]
 # Queries that aren't built, behind their root.
-OTHER_FORMS = ["{ name { uid } }", "{ ~friend }", "{ count(friend) }", "{ x as name }", "{ name() }", "@cascade { name }"]
-OTHER_FORMS += ["@normalize { n: name }", "@recurse(depth: 3) { name }", "@filter(uid(x)) { uid }", "{ count(uid) }"]
+OTHER_FORMS = ["{ name { uid } }", "{ ~friend }", "{ count(friend) }", "{ x as name }", "{ name() }", "{ count(uid) }"]
+OTHER_FORMS += ["@cascade { name }", "@normalize { n: name }", "@recurse(depth: 3) { name }", "@filter(uid(x)) { uid }"]
 OTHER_FORMS += ["@filter(eq(val(x), 1)) { x as age }", "{ name @filter(has(age)) }", "@filter(uid_in(boss, x)) { uid }"]
 UNBUILT = ["line", "state", "roll name", "rollplan x.y", "movestart name 2", "moveoff friend"]
 DIRECTIVES = ["@index", "@reverse", "@count", "@upsert", "@index(exact)", "@index(term, trigram)", "@index(int)"]

@@ -49,9 +49,10 @@ EXAMPLES = {
         "<0x1> <friend> _:bob .",
     ],
     "query": [
-        "{ q(func: uid(0x1)) { name } }",
-        '{ q(func: anyofterms(name, "ann bob")) @filter(ge(age, 18) and not has(nick)) { uid n: name } }',
-        "{ a(func: has(friend)) { uid } b(func: eq(count(~friend), 2)) { uid name } }",
+        "{",
+        "    one(func: uid(0x1)) { name }",
+        '    some(func: anyofterms(name, "ann bob")) @filter(has(~friend) and not lt(age, 18)) { uid n: name }',
+        "}",
     ],
 }
 # What the body of a verb consists of.

@@ -2,9 +2,11 @@
 
 from __future__ import annotations
 
+import re
 import unittest
 
 import plain_machine as plain
+from dgraph_shell.help import EXAMPLES
 from plain_answers import BadPattern, UnknownPattern, pattern_of
 from plain_queries import Fault, read_query
 from tests.helpers import frames
@@ -34,8 +36,7 @@ class Answers(unittest.TestCase):
         said = self.reply(f"{{ q(func: {root}) {f'@filter({tested})' if tested else ''} {{ uid }} }}")
         front, end = '{"data":{"q":[', "]}}"
         self.assertTrue(said.startswith(front) and said.endswith(end), said)
-        return [int(part, 16) for part in said[len(front) : -len(end)].replace('{"uid":"', "").split('"}')[:-1]
-                for part in [part.lstrip(",")]]
+        return [int(node, 16) for node in re.findall('{"uid":"(0x[0-9a-f]+)"}', said)]
 
     def test_roots(self) -> None:
         for root, nodes in {
@@ -121,6 +122,18 @@ class Answers(unittest.TestCase):
         self.assertEqual(self.reply(f"{{ q(func: eq(age, 1{zeros})) {{ uid }} }}"), "error 4 BadSyntax 18")
 
 
+class Help(unittest.TestCase):
+    """The forms that the shell shows are built."""
+
+    def test_the_example_of_a_query_is_answered(self) -> None:
+        bodies = {name: "\n".join(EXAMPLES[name]).encode() for name in ("alter", "mutate", "query")}
+        script = b"alter %d\n%s\nbegin 1\n" % (len(bodies["alter"]), bodies["alter"])
+        for name in ("mutate", "query"):
+            script += b"%s 1 %d\n%s\n" % (name.encode(), len(bodies[name]), bodies[name])
+        answer = b'{"data":{"one":[{"name":"Ann"}],"some":[{"uid":"0x2","n":"Bob"}]}}'
+        self.assertEqual(plain.run(script).replies[-1].split(b"\n")[1], answer)
+
+
 class Patterns(unittest.TestCase):
     """Patterns, as the part of their language that is read says."""
 
@@ -133,7 +146,7 @@ class Patterns(unittest.TestCase):
             ("", ["", "a"], []),
         ):
             pattern = pattern_of(text.replace(r"\/", "/"), False)
-            self.assertEqual([pattern.is_in(one) for one in found + others], [True] * len(found) + [False] * len(others))
+            self.assertEqual([one for one in found + others if pattern.is_in(one)], found, text)
 
     def test_letters_of_any_case(self) -> None:
         for text, found in {"straße": "STRAẞE", "σας": "ΣΑΣ", "[a-c]+$": "ABC", "K": "\u212a", "É": "é"}.items():
