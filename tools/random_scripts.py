@@ -239,10 +239,10 @@ class Draw(random.Random):
 
     def function(self, root: bool) -> str:
         """A function of a query, without a variable."""
-        ways = ["uid", "uid", "comparison", "comparison", "has", "has", "has", "terms", "regexp"]
+        ways = ["uid", "uid", "uid", "comparison", "comparison", "has", "has", "has", "terms", "regexp"]
         ways += [] if root else ["uid_in"]
         way = self.choice(ways)
-        nodes = ", ".join(hex(self.choice([*NODES, 0xABD, 6])) for _ in range(self.choice([1, 1, 3, 6])))
+        nodes = ", ".join(hex(self.choice([*NODES, 0xABD, 6])) for _ in range(self.choice([1, 2, 3, 6])))
         texts = self.choice(["name", "name", "tags", "tags", self.predicate()])
         return {
             "uid": lambda: f"uid({nodes})",
@@ -264,10 +264,11 @@ class Draw(random.Random):
         root = self.function(True)
         if self.one_in(30):
             return f"{name}(func: {root}) {self.choice(OTHER_FORMS)}"
-        tested = f" @filter({self.filter()})" if self.one_in(2) else ""
+        tested = f" @filter({self.filter()})" if self.one_in(2.5) else ""
         names = self.sample([*PREDICATES, "nick"], self.choice([0, 1, 2, 3, 6]))
-        names += ["uid"] if self.one_in(2) or not names and not self.one_in(8) else []
-        aliases = self.sample(["n: ", "o:", "uid: ", "name: ", *[""] * 12], len(names))
+        names += [] if self.one_in(4) else ["uid"]
+        same = ["uid: ", "name: "] if self.one_in(4) else []
+        aliases = self.sample(["n: ", "o:", *same, *[""] * 12], len(names))
         fields = self.choice([" ", ", "]).join(alias + name for alias, name in zip(aliases, names))
         return f"{name}(func: {root}){tested} {{ {fields} }}"
 
@@ -277,7 +278,7 @@ class Draw(random.Random):
             return f"{{ q(func: uid({node})) {{ {self.choice([*PREDICATES, 'nick'])} }} }}"
         if self.one_in(60):
             return "{" * self.choice([1, 32, 33, 34])
-        names = self.sample(["q", "p", "var", "all", "x.y"], self.choice([0, 1, 1, 1, 1, 2, 3]))
+        names = self.sample(["q", "p", "r", "var", "x.y"], 0 if self.one_in(20) else self.choice([1, 1, 1, 2, 3]))
         front = self.choice(["", "", "", "query ", "# asked\n"])
         return f"{front}{{ {' '.join(self.block(name) for name in names)} }}"
 
