@@ -104,7 +104,8 @@ fn repeated_frame(alloc: Global, said: &[&str]) -> Result<Vec<u8>, RowFault> {
     };
     let piece = bytes_of(alloc, piece)?;
     let mut bytes = bytes_of(alloc, front)?;
-    for _turn in 0..count.parse::<usize>()? {
+    let count = count.parse::<usize>()?;
+    for _turn in 0..count {
         bytes.extend_from_slice(&piece)?;
     }
     bytes.extend_from_slice(&bytes_of(alloc, back)?)?;
