@@ -8,9 +8,10 @@ look at the graph begins with the first commit. It was written from the meaning 
 from the program, so that the two can be compared (`random_scripts.py`): proofs say that the program
 does what the definitions in `specs/` say, and this asks whether those say what they should.
 
-Queries of another form than `{ q(func: uid(0xUID)) { NAME } }` and the verbs that aren't built answer
-98. It ends with 4 where the script isn't frames to its end, as the program does. It needs Python 3.9 or
-later. Values stand in `plain_values.py`, graphs and the keys of conflicts in `plain_graph.py`.
+Queries of another form than those of one flat level and the verbs that aren't built answer 98. It ends
+with 4 where the script isn't frames to its end, as the program does. It needs Python 3.9 or later. Tokens
+stand in `plain_tokens.py`, values in `plain_values.py`, graphs and the keys of conflicts in
+`plain_graph.py`, the query language in `plain_queries.py`, and what it answers in `plain_answers.py`.
 """
 
 from __future__ import annotations
@@ -21,135 +22,14 @@ from collections.abc import Iterable, Iterator
 from dataclasses import dataclass, field
 from typing import NamedTuple, Optional, Union
 
+from plain_answers import answer_of
 from plain_graph import TOKENIZERS, Change, ConflictKey, Definition, Graph, apply, conflict_keys
-from plain_values import KINDS, NODE, Posting, json_text, read_posting
+from plain_tokens import NAME, UID, Reader, Refusal, Token, is_whole, lex, text_of
+from plain_values import KINDS, NODE, Posting, read_posting
 
 LAST_UID = 2**62 - 1
 LAST_TIMESTAMP = 2**62 - 1
-LONGEST_NAME = 64
-LONGEST_ANSWER = 16_777_216
 RESERVED = {"uid", "count", "val", "min", "max", "sum", "as", "expand"}
-
-
-class Refusal(Exception):
-    """A numbered refusal, with its name and fields."""
-
-    def __init__(self, number: int, *words: object) -> None:
-        super().__init__(number)
-        self.line = " ".join(str(word) for word in ("error", number, *words))
-
-
-# ---------------------------------------------------------------------------------------------------
-# Tokens
-# ---------------------------------------------------------------------------------------------------
-
-
-class Token(NamedTuple):
-    """A token: its kind (a mark is its own kind), what it says, and its first byte."""
-
-    kind: str
-    says: str
-    offset: int
-
-
-NAME = re.compile(r"[A-Za-z_](?:[A-Za-z0-9_]|\.(?=[A-Za-z0-9_]))*")
-UID = re.compile(r"0x[0-9a-fA-F]{1,16}")
-FORMS = [
-    ("name", NAME),
-    ("blank", re.compile(r"_:[A-Za-z0-9_]+")),
-    ("int", re.compile(r"-?[0-9]+")),
-    ("uid", UID),
-    ("quoted", re.compile(r'"(?:[^"\\\n\r]|\\.)*"')),
-    ("iri", re.compile(r'<[^\0-\x20<>"{}|^`\\]+>')),
-    ("at", re.compile("@" + NAME.pattern)),
-    ("regex", re.compile(r"/(?:[^/\n\\]|\\[\s\S])+/i?")),
-    ("caret", re.compile(r"\^\^")),
-    ("mark", re.compile(r"[{}()\[\],:.~*]")),
-]
-BLANKS = re.compile(r"(?:[ \t\r\n]|#[^\n]*)*")
-ESCAPE = re.compile(r"\\(?:u([0-9a-fA-F]{4})|U([0-9a-fA-F]{8})|(.))")
-ESCAPED = dict(zip("tbnrf\"'\\/", "\t\b\n\r\f\"'\\/"))
-
-
-def unescape(text: str) -> Optional[str]:
-    """What stands between quotes, where each escape is one of the language."""
-    said, at = [], 0
-    for escape in ESCAPE.finditer(text):
-        code = int(escape[1] or escape[2] or "0", 16)
-        if escape[3] is not None and escape[3] not in ESCAPED:
-            return None
-        if code > 0x10FFFF or 0xD800 <= code <= 0xDFFF:
-            return None
-        said += [text[at : escape.start()], ESCAPED[escape[3]] if escape[3] else chr(code)]
-        at = escape.end()
-    return "".join(said) + text[at:]
-
-
-def spelled(kind: str, text: str) -> Optional[str]:
-    """What a text of the form of a kind says, where it is a token of that kind."""
-    if kind == "quoted":
-        return unescape(text[1:-1])
-    if kind == "uid":
-        return text if int(text, 16) else None
-    if kind in ("name", "blank", "at"):
-        said = {"name": text, "blank": text[2:], "at": text[1:]}[kind]
-        return said if len(said) <= LONGEST_NAME else None
-    return text[1:-1] if kind == "iri" else text
-
-
-def lex(text: str) -> tuple[list[Token], Optional[int]]:
-    """The tokens of a text up to a byte that begins none, if there is one."""
-    tokens: list[Token] = []
-    at = BLANKS.match(text).end()  # type: ignore[union-attr]
-    counted, offset = 0, 0
-    while at < len(text):
-        offset += len(text[counted:at].encode())
-        counted = at
-        matched = [(match.end(), kind) for kind, form in FORMS if (match := form.match(text, at))]
-        ends = {end: kind for end, kind in matched if spelled(kind, text[at:end]) is not None}
-        longest = max(ends, default=at)
-        # A name or a node's name that is too long begins no token, rather than a shorter one.
-        if longest == at or longest < max(end for end, kind in matched if kind != "uid"):
-            return tokens, offset
-        kind = ends[longest]
-        said = spelled(kind, text[at:longest])
-        tokens.append(Token(said if kind == "mark" else kind, said, offset))  # type: ignore[arg-type]
-        at = BLANKS.match(text, longest).end()  # type: ignore[union-attr]
-    return tokens, None
-
-
-def text_of(body: bytes) -> str:
-    try:
-        return body.decode()
-    except UnicodeDecodeError as fault:
-        raise Refusal(3, "BadToken", fault.start) from None
-
-
-class Reader:
-    """Tokens that are read from the left; the end of the text is a token of its own."""
-
-    def __init__(self, tokens: list[Token], end: Token) -> None:
-        self.tokens = [*tokens, end]
-        self.at = 0
-
-    def next(self) -> Token:
-        return self.tokens[self.at]
-
-    def take(self) -> Token:
-        self.at += 1
-        return self.tokens[self.at - 1]
-
-    def refuse(self, token: Token) -> Refusal:
-        raise NotImplementedError
-
-    def want(self, kind: str) -> Token:
-        if self.next().kind != kind:
-            raise self.refuse(self.next())
-        return self.take()
-
-
-def is_whole(form: re.Pattern[str], text: str) -> bool:
-    return form.fullmatch(text) is not None and len(text) <= LONGEST_NAME
 
 
 # ---------------------------------------------------------------------------------------------------
@@ -384,18 +264,6 @@ class Session:
     changes: list[Change] = field(default_factory=list)
 
 
-QUERY = re.compile(rb"\{ q\(func: uid\(0x([0-9a-fA-F]{1,16})\)\) \{ ([A-Za-z0-9_.]+) \} \}")
-
-
-def asked(body: bytes) -> Optional[tuple[str, int]]:
-    """The predicate and the node that a query of the form that is built asks for."""
-    parts = QUERY.fullmatch(body)
-    if parts is None:
-        return None
-    name, node = parts[2].decode(), int(parts[1], 16)
-    return (name, node) if node and is_whole(NAME, name) and name not in RESERVED else None
-
-
 class PlainMachine:
     """The committed changes in their order, the schema, the open sessions and the two counters."""
 
@@ -413,7 +281,7 @@ class PlainMachine:
                 return self.alter(body)
             if verb == "begin":
                 return self.begin(session)
-            if verb not in ("mutate", "query", "commit", "discard") or verb == "query" and asked(body) is None:
+            if verb not in ("mutate", "query", "commit", "discard"):
                 raise Refusal(98, "Unbuilt")
             if session not in self.sessions:
                 raise Refusal(1, "NoSession", session)
@@ -534,20 +402,8 @@ class PlainMachine:
         return with_body("mutate", number, f'{{"uids":{{{uids}}}}}')
 
     def query(self, number: int, body: bytes) -> bytes:
-        place = asked(body)
-        assert place is not None
-        name, _ = place
         session = self.sessions[number]
-        objects = self.view(session).get(place, frozenset())
-        shown = [json_text(posting) for posting in sorted(objects) if posting.rank != NODE]
-        node = ""
-        if shown:
-            text = f"[{','.join(shown)}]" if session.schema[name].is_list else shown[0]
-            node = f'{{"{name}":{text}}}'
-        answer = f'{{"data":{{"q":[{node}]}}}}'
-        if len(answer.encode()) > LONGEST_ANSWER:
-            raise Refusal(17, "AnswerTooLarge")
-        return with_body("query", number, answer)
+        return with_body("query", number, answer_of(self.view(session), session.schema, text_of(body)))
 
 
 def with_body(verb: str, number: int, text: str) -> bytes:

@@ -100,14 +100,20 @@ def moment_text(moment: Moment) -> str:
     return f"{year:04}-{month:02}-{day:02}T{clock}{fraction}Z"
 
 
+def number_of(text: str) -> Optional[int]:
+    """The number of 64 bits that digits say, with a sign or none; Python itself doesn't read very many digits."""
+    sign, digits = text[: len(text) - len(text.lstrip("+-"))], text.lstrip("+-").lstrip("0")
+    number = int(sign + (digits or "0")) if len(digits) < 20 else 2**63
+    return number if -(2**63) <= number < 2**63 else None
+
+
 def read_posting(kind: str, text: str) -> Optional[Posting]:
     """What a text reads as, where it reads as a value of the kind."""
     key: Union[int, bytes, Moment, None] = None
     if kind in ("string", "default"):
         key = text.encode()
     elif kind == "int" and re.fullmatch(r"[-+]?[0-9]+", text):
-        number = int(text)
-        key = number if -(2**63) <= number < 2**63 else None
+        key = number_of(text)
     elif kind == "bool":
         key = {"false": 0, "true": 1}.get(text)
     elif kind == "dateTime":

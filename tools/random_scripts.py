@@ -7,12 +7,13 @@
 `compare` runs the built program over so many scripts, each drawn from its number, and ends with 1
 where the program does otherwise than `plain_machine.py`; it shows the request and both replies. `print`
 writes one of them. Most requests are sound; some statements have a fault, and some bodies and scripts
-a byte more, less or in the place of another. Predicates have directives, which change over data. In a
-third of the scripts many sessions write at once: a few nodes, lists whose values share tokens, or a node
-each and the same values or edges. So many commits meet a conflict: of a hundred scripts or more, one
-reply in fifty has to be one, and one in two thousand by each kind of key, or `compare` ends with 1. Where
-no first number is given it follows from the day, so that no two days have the same scripts; the numbers
-are printed. It needs Python 3.9 or later.
+a byte more, less or in the place of another. Predicates have directives, which change over data, and
+queries ask by every function, filter and form, also over own changes. In a third of the scripts many
+sessions write at once: a few nodes, lists whose values share tokens, or a node each and the same values
+or edges. So many commits meet a conflict: of a hundred scripts or more, one reply in fifty has to be one,
+and one in two thousand by each kind of key, or `compare` ends with 1. Where no first number is given it
+follows from the day, so that no two days have the same scripts; the numbers are printed. It needs Python
+3.9 or later.
 """
 
 from __future__ import annotations
@@ -90,6 +91,14 @@ VALUES |= {"born": MOMENTS, "days": MOMENTS, "name": TEXTS, "note": TEXTS, "tags
 TYPES = ["xs:string", "xs:int", "xs:integer", "xs:boolean", "xs:dateTime", "xs:date", "xs:float", "string"]
 TYPES.append("http://www.w3.org/2001/XMLSchema#int")
 KINDS = "default string int bool dateTime datetime uid".split()
+# What queries ask of texts, and what no pattern is.
+PATTERNS = ["red", "^R", "d$", "r.d", "[a-c]a", "[^a-z ]", "ca?r", "o*x", "é", "ß"]
+PATTERNS += ["カ", r"\/", "^$", "[A-C]+", "s", "k", "5½ ?Ⅷ", "."]
+BAD_PATTERNS = ["(", ")", "[a", "*a", "a)", r"a\1", "a(b"]
+# Queries that aren't built, behind their root.
+OTHER_FORMS = ["{ name { uid } }", "{ ~friend }", "{ count(friend) }", "{ x as name }", "{ name() }", "{ count(uid) }"]
+OTHER_FORMS += ["@cascade { name }", "@normalize { n: name }", "@recurse(depth: 3) { name }", "@filter(uid(x)) { uid }"]
+OTHER_FORMS += ["@filter(eq(val(x), 1)) { x as age }", "{ name @filter(has(age)) }", "@filter(uid_in(boss, x)) { uid }"]
 UNBUILT = ["line", "state", "roll name", "rollplan x.y", "movestart name 2", "moveoff friend"]
 DIRECTIVES = ["@index", "@reverse", "@count", "@upsert", "@index(exact)", "@index(term, trigram)", "@index(int)"]
 DIRECTIVES += ["@index(year, year)", "@index(bool,)", "@lang"]
@@ -197,12 +206,85 @@ class Draw(random.Random):
     def schema(self) -> str:
         return "\n".join(self.definition() for _ in range(self.choice([1, 1, 2, 3])))
 
+    def asked_literal(self, predicate: str) -> str:
+        """A literal of a comparison: between quotes, or a number or a truth as it is."""
+        text = self.choice(VALUES.get(predicate, NUMBERS))
+        if self.one_in(12):
+            text = self.choice(self.choice([*VALUES.values(), NO_VALUES]))
+        bare = re.fullmatch("-?[0-9]+|true|false", text) and self.one_in(2)
+        return text if bare else f'"{text}"'
+
+    def edge(self) -> str:
+        """A predicate, now and then one of values or none, and now and then the other way round."""
+        name = self.choice(EDGES) if self.one_in(2) else self.predicate()
+        return f"~{name}" if self.one_in(3) else name
+
+    def predicate(self) -> str:
+        return "nick" if self.one_in(20) else self.choice(PREDICATES)
+
+    def comparison(self) -> str:
+        word = self.choice(["eq", "eq", "le", "lt", "ge", "gt", "between"])
+        of, predicate = f"count({self.edge()})", ""
+        if not self.one_in(4):
+            of = predicate = self.predicate()
+        often = 2 if word == "between" else self.choice([1, 1, 2, 3]) if word == "eq" else 1
+        texts = ["0", "1", "2", "-1", '"3"', "true"]
+        literals = [self.asked_literal(predicate) if predicate else self.choice(texts) for _ in range(often)]
+        said = ", ".join(literals)
+        return f"{word}({of}, [{said}])" if word == "eq" and self.one_in(3) else f"{word}({of}, {said})"
+
+    def pattern(self) -> str:
+        said = self.choice(BAD_PATTERNS if self.one_in(12) else PATTERNS)
+        return f"/{said}/{self.choice(['', 'i'])}"
+
+    def function(self, root: bool) -> str:
+        """A function of a query, without a variable."""
+        ways = ["uid", "uid", "uid", "comparison", "comparison", "has", "has", "has", "terms", "regexp"]
+        ways += [] if root else ["uid_in"]
+        way = self.choice(ways)
+        nodes = ", ".join(hex(self.choice([*NODES, 0xABD, 6])) for _ in range(self.choice([1, 2, 3, 6])))
+        texts = self.choice(["name", "name", "tags", "tags", self.predicate()])
+        return {
+            "uid": lambda: f"uid({nodes})",
+            "comparison": self.comparison,
+            "has": lambda: f"has({self.edge() if self.one_in(3) else self.predicate()})",
+            "terms": lambda: f'{self.choice(["anyofterms", "allofterms"])}({texts}, "{self.choice(TEXTS)}")',
+            "regexp": lambda: f"regexp({texts}, {self.pattern()})",
+            "uid_in": lambda: f"uid_in({self.edge()}, {nodes})",
+        }[way]()
+
+    def filter(self, depth: int = 2) -> str:
+        """A filter with brackets, so deep at most."""
+        if depth == 0 or self.one_in(2):
+            return self.choice(["", "", "not ", "NOT not "]) + self.function(False)
+        inner = self.choice([" and ", " or ", " Or "]).join(self.filter(depth - 1) for _ in range(2))
+        return self.choice(["({})", "({})", "not ({})", "{}"]).format(inner)
+
+    def block(self, name: str) -> str:
+        root = self.function(True)
+        if self.one_in(30):
+            return f"{name}(func: {root}) {self.choice(OTHER_FORMS)}"
+        tested = f" @filter({self.filter()})" if self.one_in(2.5) else ""
+        names = self.sample([*PREDICATES, "nick"], self.choice([0, 1, 2, 3, 6]))
+        names += [] if self.one_in(4) else ["uid"]
+        same = ["uid: ", "name: "] if self.one_in(4) else []
+        aliases = self.sample(["n: ", "o:", *same, *[""] * 12], len(names))
+        fields = self.choice([" ", ", "]).join(alias + name for alias, name in zip(aliases, names))
+        return f"{name}(func: {root}){tested} {{ {fields} }}"
+
     def query(self) -> str:
-        return f"{{ q(func: uid({hex(self.choice([*NODES, 0xABD, 6]))})) {{ {self.choice([*PREDICATES, 'nick'])} }} }}"
+        if self.one_in(6):
+            node = hex(self.choice([*NODES, 0xABD, 6]))
+            return f"{{ q(func: uid({node})) {{ {self.choice([*PREDICATES, 'nick'])} }} }}"
+        if self.one_in(60):
+            return "{" * self.choice([1, 32, 33, 34])
+        names = self.sample(["q", "p", "r", "var", "x.y"], 0 if self.one_in(20) else self.choice([1, 1, 1, 2, 3]))
+        front = self.choice(["", "", "", "query ", "# asked\n"])
+        return f"{front}{{ {' '.join(self.block(name) for name in names)} }}"
 
     def marred(self, text: str) -> bytes:
-        """The text, or now and then one that differs in one place."""
-        if self.one_in(12) and text:
+        """The text, or now and then one that differs in one place; patterns stay, since few are read here."""
+        if self.one_in(12) and text and "regexp(" not in text:
             at = self.randrange(len(text))
             text = text[:at] + self.choice(["", self.choice(BYTES)]) + text[at + self.choice([0, 1]) :]
         body = text.encode()
@@ -267,15 +349,14 @@ def contended(draw: Draw) -> Iterator[bytes]:
         draw.shuffle(sessions)
         for session in sessions:
             if draw.one_in(3):
-                asked = f"{{ q(func: uid({hex(draw.choice(nodes[session]))})) {{ {draw.choice(predicates)} }} }}"
-                yield frame(f"query {session}", asked.encode())
+                yield frame(f"query {session}", draw.query().encode())
             yield f"{'discard' if draw.one_in(12) else 'commit'} {session}\n".encode()
         if draw.one_in(2):
             yield frame("alter", draw.declared(draw.sample(predicates, 1), *most).encode())
 
 
 def frames(draw: Draw) -> Iterator[bytes]:
-    yield frame("alter", draw.declared(PREDICATES).encode())
+    yield frame("alter", draw.declared(PREDICATES, draw.choice([1.1, 2])).encode())
     sessions = draw.choice([[1], [1, 2], [1, 2, 16]])
     begun: set[int] = set()
     for _ in range(draw.choice([20, 60, 120])):

@@ -45,6 +45,8 @@ def bytes_of_row(table: str, line: str, *parts: str) -> bytes:
     body = bytes.fromhex(parts[0]) if table == "hex" else plain_bytes(parts[0])
     if table == "filled":
         body = body.replace("…".encode(), b"a" * int(parts[1]))
+    if table == "repeated":
+        body = body.replace("…".encode(), plain_bytes(parts[2]) * int(parts[1]))
     return b"%s %d\n%s\n" % (line.encode(), len(body), body)
 
 
@@ -135,7 +137,7 @@ def main() -> None:
         if not row or row.startswith("#"):
             continue
         table, *fields = row.split(" | ")
-        if table in ("frame", "hex", "filled", "raw"):
+        if table in ("frame", "hex", "filled", "repeated", "raw"):
             script = script.add(row, bytes_of_row(table, *fields))
         elif table == "run":
             script.run()

@@ -17,6 +17,7 @@ from collections.abc import Callable, Iterator
 from typing import NamedTuple, Optional, Union
 
 import plain_machine as plain
+import plain_tokens
 
 LONGEST_ANSWER = 16_777_216
 
@@ -75,7 +76,7 @@ def place(text: str, at: int) -> int:
 def end_of(text: str, token: plain.Token) -> int:
     """Where the characters of a token of the text end."""
     at = len(text.encode()[: token.offset].decode())
-    form = dict(plain.FORMS).get(token.kind)
+    form = dict(plain_tokens.FORMS).get(token.kind)
     found = form.match(text, at) if form else None
     return found.end() if found else at + 1
 
@@ -128,7 +129,7 @@ def row_says(text: str) -> str:
 
 
 def row_unquoted(inner: str) -> str:
-    said = plain.unescape(inner)
+    said = plain_tokens.unescape(inner)
     if said is None:
         raise Unreadable
     return f'"{shown(said)}"'

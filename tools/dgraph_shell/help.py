@@ -33,7 +33,7 @@ PURPOSES = {
     "alter": "declares predicates, with a body of definitions",
     "begin": "opens a transaction in the session SID",
     "mutate": "sets and deletes triples, with a body of statements",
-    "query": "asks for one predicate of one node, with a body of that form",
+    "query": "asks by functions and filters, with a body of blocks",
     "commit": "makes the transaction's changes seen, and ends it",
     "discard": "forgets them, and ends it",
 }
@@ -48,14 +48,23 @@ EXAMPLES = {
         '_:bob <name> "Bob" .        # a new node; the reply has its number',
         "<0x1> <friend> _:bob .",
     ],
-    "query": ["{ q(func: uid(0x1)) { name } }"],
+    "query": [
+        "{",
+        "    one(func: uid(0x1)) { name }",
+        '    some(func: anyofterms(name, "ann bob")) @filter(has(~friend) and not lt(age, 18)) { uid n: name }',
+        "}",
+    ],
 }
 # What the body of a verb consists of.
 PARTS = {"alter": "definition", "mutate": "statement"}
 MORE = {
     "alter": [DIRECTIVES],
     "mutate": ["deletes stand in a group:", INDENT + '{ set { <0x1> <name> "Anna" . } delete { <0x1> <friend> * . } }'],
-    "query": ["of a predicate of nodes nothing is shown yet"],
+    "query": [
+        "functions are uid, has, eq, le, lt, ge, gt, between, anyofterms, allofterms, regexp and, in a filter, uid_in;",
+        "all but uid and has need an index at a block's head, count(..) needs @count, and ~ needs @reverse;",
+        "of a predicate of nodes nothing is shown yet",
+    ],
 }
 
 

@@ -117,6 +117,11 @@ TIPS = {
         (r"-?[0-9]", 'write a number between quotes, as `"3"`, and a node as `<0x1>`'),
     ],
 }
+NO_LITERAL = Meaning(
+    "a literal that {0} is compared with is none of its kind, or a pattern is none",
+    "compare an int with 3, a bool with true, a dateTime with \"1993-05-19\", a count with a number; in a pattern `\\` "
+    "stands before a sign that means itself, as in `/\\(/`",
+)
 # What a key is, behind its text, where it is of no object that was set or deleted.
 KEYS = {
     "index": "a token of values of both",
@@ -138,7 +143,8 @@ QUERY = "`{ q(func: uid(0x1)) { name } }`"
 FORMS = {"alter": DEFINITION, "mutate": STATEMENT, "query": QUERY}
 # What is built where a request is answered 98.
 BUILT_FORMS = {
-    "query": f"built is the form {QUERY}, with these blanks: any node by its number, any one predicate",
+    "query": "built are blocks as in `{ q(func: eq(name, \"Ann\")) @filter(has(age)) { uid name } }`: a function, one "
+    "@filter or none, and fields that are uid or a predicate, with an alias or without; no arguments and variables",
 }
 BUILT_VERBS = f"built are {', '.join(verb.line for verb in BUILT)}"
 
@@ -162,6 +168,8 @@ def meaning_of(refusal: Refusal, request: Optional[Request]) -> Meaning:
     spot = spot_of(refusal, request.body) if request else None
     if refusal.name == "SchemaSyntax" and spot and "@" in spot.text:
         meaning = meaning._replace(next=DIRECTIVES)
+    if refusal.name == "BadLiteral" and request is not None and request.verb.name == "query":
+        return NO_LITERAL
     if refusal.name not in TIPS or request is None or request.body is None or spot is None:
         return meaning
     front, rest = request.body[: int(refusal.fields)], request.body[int(refusal.fields) :]

@@ -65,9 +65,21 @@ def cell_of(value: Any) -> str:
     return visible(json.dumps(value, ensure_ascii=False, separators=(",", ":")))
 
 
+def columns_of(rows: Sequence[dict[str, Any]]) -> list[str]:
+    """The keys of rows, of which each has some in one order: a new one stands behind the key before it in its row."""
+    columns: list[str] = []
+    for row in rows:
+        place = 0
+        for key in row:
+            if key not in columns:
+                columns.insert(place, key)
+            place = columns.index(key) + 1
+    return columns
+
+
 def table_of(rows: Sequence[dict[str, Any]]) -> list[str]:
-    """The lines of a table with a column for each key, in the order in which the keys come."""
-    columns = list(dict.fromkeys(key for row in rows for key in row))
+    """The lines of a table with a column for each key."""
+    columns = columns_of(rows)
     cells = [[cell_of(row[key]) if key in row else "" for key in columns] for row in rows]
     widths = [max(map(width_of, column)) for column in zip(columns, *cells)]
     rules = ["-" * width for width in widths]

@@ -13,10 +13,12 @@ from unittest import mock
 
 import plain_machine as plain
 import random_scripts as scripts
+from plain_answers import tested_in
+from plain_queries import FUNCTIONS, read_query
 from tests.helpers import SECONDS, TOOLS, InFolder
 
 BUILT = {f"ok {verb}" for verb in ("alter", "begin", "mutate", "query", "commit", "discard")}
-REFUSED = {f"error {number}" for number in (1, 2, 3, 4, 10, 13, 14, 15, 19, 20, 22, 27, 98)}
+REFUSED = {f"error {number}" for number in (1, 2, 3, 4, 5, 9, 10, 13, 14, 15, 19, 20, 22, 27, 98)}
 COMPARE = [sys.executable, "-B", TOOLS / "random_scripts.py", "compare"]
 
 # A program that writes what it was told, says it, and ends so, however long that takes.
@@ -94,6 +96,23 @@ class Reach(unittest.TestCase):
             nodes = {node for request in done.requests for node in re.findall(rb"<(0x2[0-9a-f]|0x30)>", request.body)}
             met += len(nodes) > 3 and any(scripts.kind_of(reply) == "conflict by index" for reply in done.replies)
         self.assertGreater(met, 2)
+
+    def test_each_function_is_asked_at_a_root_and_in_a_filter(self) -> None:
+        asked: Counter[str] = Counter()
+        shown = 0
+        for number in range(200):
+            done = plain.run(scripts.script(number))
+            for request, reply in zip(done.requests, done.replies):
+                if request.verb != "query" or not reply.startswith(b"ok "):
+                    continue
+                shown += b"[{" in reply
+                for block in read_query(request.body.decode()):
+                    assert block.function is not None
+                    asked[f"root {block.function.word}"] += 1
+                    asked.update(f"tested {function.word}" for function in tested_in(block))
+        wanted = {f"{place} {word}" for place in ("root", "tested") for word in FUNCTIONS} - {"root uid_in"}
+        self.assertEqual(set(asked), wanted)
+        self.assertGreater(shown, 100)
 
     def test_many_sessions_write_the_same_nodes(self) -> None:
         done = plain.run(scripts.script(0))

@@ -142,9 +142,17 @@ class Refusals(unittest.TestCase):
         self.assertEqual(says(refusal, request_of("mutate", "1", body=b" * .")), "nothing can begin with this")
         self.assertEqual(says(refusal, request_of("mutate", "1", body=b"a* .")), MEANINGS[4].says)
 
+    def test_a_literal_of_a_query_may_be_a_pattern(self) -> None:
+        refusal = Refusal.of(Reply(b"error 10 BadLiteral age"))
+        assert refusal
+        self.assertEqual(says(refusal, request_of("mutate", "1", body=b"")), "a value doesn't read as what age takes")
+        asked = request_of("query", "1", body=b"{ q(func: regexp(age, /(/)) { uid } }")
+        self.assertIn("or a pattern is none", says(refusal, asked))
+        self.assertIn("`/\\(/`", what_next(refusal, asked))
+
     def test_forms_that_are_built_are_shown_where_one_isnt(self) -> None:
         query = self.next("error 98 Unbuilt", request_of("query", "1", body=b"{}"))
-        self.assertIn("`{ q(func: uid(0x1)) { name } }`", query)
+        self.assertIn('`{ q(func: eq(name, "Ann")) @filter(has(age)) { uid name } }`', query)
         built = "built are alter, begin SID, mutate SID, query SID, commit SID, discard SID"
         for request in (request_of("line"), request_of("upsert", "1", body=b""), request_of("roll", "a")):
             self.assertEqual(self.next("error 98 Unbuilt", request), built)

@@ -72,7 +72,7 @@ class Shells(InFolder):
     def test_help_on_a_verb(self) -> None:
         _, shown, _ = self.serve(["help query", "\\help ALTER", "help moveoff", "help foo"], self.program())
         self.assertIn("query SID, and a body below\n", shown)
-        self.assertIn("        { q(func: uid(0x1)) { name } }\n", shown)
+        self.assertIn("        {\n            one(func: uid(0x1)) { name }\n", shown)
         self.assertIn("    a definition is `NAME: KIND .`", shown)
         self.assertIn("        friend: [uid] @reverse @count . ", shown)
         self.assertIn("behind the kind may stand @index(..)", shown)

@@ -79,6 +79,21 @@ class Showing(unittest.TestCase):
             ],
         )
 
+    def test_a_table_has_a_column_a_key_in_the_order_of_the_query(self) -> None:
+        rows = [{"uid": "0x1", "age": 30}, {"uid": "0x2", "name": "Bob", "age": -4, "tags": ["a", "b"]}]
+        self.assertEqual(tables_of({"q": rows, "r": [{"age": 1}, {"name": "", "age": 2}]}), [
+            "q: 2 rows",
+            "    uid  name  age  tags",
+            "    ---  ----  ---  ---------",
+            "    0x1        30",
+            '    0x2  Bob   -4   ["a","b"]',
+            "r: 2 rows",
+            "    name  age",
+            "    ----  ---",
+            "          1",
+            '    ""    2',
+        ])
+
     def test_cells(self) -> None:
         self.assertEqual([cell_of(v) for v in ("a\nb\tc\x7f", True, 2**70, {"a": "é"})],
                          ["a\\nb\\tc\\u007f", "true", str(2**70), '{"a":"é"}'])

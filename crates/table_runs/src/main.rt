@@ -53,7 +53,7 @@ fn answer<R: Threads + Wait + Sync>(
         return Err(RowFault::Unreadable);
     };
     match *table {
-        "frame" | "hex" | "filled" | "raw" => {
+        "frame" | "hex" | "filled" | "repeated" | "raw" => {
             script.add(alloc, row, &script::bytes_of_row(alloc, table, said)?)?;
             Ok(String::new(alloc))
         }

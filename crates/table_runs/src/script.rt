@@ -51,13 +51,14 @@ impl Script {
     }
 }
 
-/// The bytes that a row adds to a script: a frame with a body in one of three forms, a frame without a body, or bytes as
+/// The bytes that a row adds to a script: a frame with a body in one of four forms, a frame without a body, or bytes as
 /// they are.
 pub fn bytes_of_row(alloc: Global, table: &str, said: &[&str]) -> Result<Vec<u8>, RowFault> {
     match table {
         "frame" => frame(alloc, said),
         "hex" => hex_frame(alloc, said),
         "filled" => filled_frame(alloc, said),
+        "repeated" => repeated_frame(alloc, said),
         _ => raw(alloc, said),
     }
 }
@@ -89,6 +90,24 @@ fn filled_frame(alloc: Global, said: &[&str]) -> Result<Vec<u8>, RowFault> {
     };
     let mut bytes = bytes_of(alloc, front)?;
     bytes.extend_from_slice(&vec![in alloc; b'a'; count.parse::<usize>()?]?)?;
+    bytes.extend_from_slice(&bytes_of(alloc, back)?)?;
+    framed(alloc, line, &bytes)
+}
+
+// `repeated | LINE WITHOUT THE LENGTH | BODY | COUNT | PIECE`: the piece stands so often in the body's place …
+fn repeated_frame(alloc: Global, said: &[&str]) -> Result<Vec<u8>, RowFault> {
+    let [line, body, count, piece] = said else {
+        return Err(RowFault::Unreadable);
+    };
+    let Some((front, back)) = body.split_once('…') else {
+        return Err(RowFault::Unreadable);
+    };
+    let piece = bytes_of(alloc, piece)?;
+    let mut bytes = bytes_of(alloc, front)?;
+    let count = count.parse::<usize>()?;
+    for _turn in 0..count {
+        bytes.extend_from_slice(&piece)?;
+    }
     bytes.extend_from_slice(&bytes_of(alloc, back)?)?;
     framed(alloc, line, &bytes)
 }

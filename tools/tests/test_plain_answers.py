@@ -1,0 +1,187 @@
+"""Queries of one flat level, as they are answered plainly."""
+
+from __future__ import annotations
+
+import re
+import unittest
+
+import plain_machine as plain
+from dgraph_shell.help import EXAMPLES
+from plain_answers import BadPattern, UnknownPattern, pattern_of
+from plain_queries import Fault, read_query
+from tests.helpers import frames
+
+DATA = """alter
+    name: string @index(term, trigram, exact) . age: int @index . tag: [string] . friend: [uid] @reverse @count .
+    bare: string . boss: uid . born: dateTime @index .
+begin 1
+mutate 1
+    <0x1> <name> "Ann Lee" . <0x2> <name> "Bob" . <0x3> <name> "ann" . <0x1> <age> "30" . <0x2> <age> "-4" .
+    <0x1> <tag> "b" . <0x1> <tag> "a" . <0x1> <friend> <0x2> . <0x1> <friend> <0x3> . <0x2> <friend> <0x3> .
+    <0x3> <bare> "x" . <0x2> <boss> <0x1> . <0x2> <born> "1990-05-01T10:00:00Z" .
+"""
+
+
+class Answers(unittest.TestCase):
+    """What a transaction is answered over a few nodes."""
+
+    def reply(self, query: str) -> str:
+        """What is behind the first line of a reply, or a refusal."""
+        script = frames(DATA) + b"query 1 %d\n%s\n" % (len(query.encode()), query.encode())
+        line, _, body = plain.run(script).replies[-1].decode().partition("\n")
+        return body.rstrip("\n") or line
+
+    def nodes(self, root: str, tested: str = "") -> list[int]:
+        """The nodes of a block."""
+        said = self.reply(f"{{ q(func: {root}) {f'@filter({tested})' if tested else ''} {{ uid }} }}")
+        front, end = '{"data":{"q":[', "]}}"
+        self.assertTrue(said.startswith(front) and said.endswith(end), said)
+        return [int(node, 16) for node in re.findall('{"uid":"(0x[0-9a-f]+)"}', said)]
+
+    def test_roots(self) -> None:
+        for root, nodes in {
+            "uid(0x9, 0x2, 0x9)": [2, 9],
+            "has(name)": [1, 2, 3],
+            "has(~friend)": [2, 3],
+            "has(nope)": [],
+            'eq(name, "ann")': [3],
+            'eq(name, ["ann", "Bob", "x"])': [2, 3],
+            "eq(age, -4, \"+030\")": [1, 2],
+            "lt(age, 30)": [2],
+            "ge(age, 30)": [1],
+            'gt(name, "Bob")': [3],
+            "between(age, -4, 30)": [1, 2],
+            "between(age, 30, -4)": [],
+            'le(born, "1990-05-01T10:00:00Z")': [2],
+            'anyofterms(name, "LEE bob")': [1, 2],
+            'allofterms(name, "lee, ann")': [1],
+            'allofterms(name, "-")': [],
+            "regexp(name, /^ann/i)": [1, 3],
+            "eq(count(friend), 2)": [1],
+            "lt(count(friend), 1)": [],
+            "ge(count(~friend), 2)": [3],
+            "eq(count(~friend), 0)": [],
+        }.items():
+            self.assertEqual(self.nodes(root), nodes, root)
+
+    def test_filters(self) -> None:
+        for tested, nodes in {
+            "has(age)": [1, 2],
+            "not has(age)": [3],
+            "not NOT Not has(age)": [3],
+            "has(age) and not lt(age, 0) or has(bare)": [1, 3],
+            "has(age) and not (lt(age, 0) or has(bare))": [1],
+            "eq(count(friend), 0)": [3],
+            "uid_in(friend, 0x3)": [1, 2],
+            "uid_in(~friend, 0x1)": [2, 3],
+            "uid(0x3, 0x7)": [3],
+            "eq(nope, 1) or eq(bare, \"x\")": [3],
+            'anyofterms(age, "30") or regexp(age, /3/)': [],
+        }.items():
+            self.assertEqual(self.nodes("has(name)", tested), nodes, tested)
+
+    def test_what_is_shown(self) -> None:
+        for query, answer in {
+            "{}": "{}",
+            "query { q(func: uid(0x1)) { uid n: name age tag friend nope } }":
+                '{"q":[{"uid":"0x1","n":"Ann Lee","age":30,"tag":["a","b"]}]}',
+            "{ a(func: has(name)) { age } var(func: has(name)) { uid } b(func: has(name)) { friend boss } }":
+                '{"a":[{"age":30},{"age":-4}],"b":[]}',
+        }.items():
+            self.assertEqual(self.reply(query), f'{{"data":{answer}}}')
+
+    def test_refusals_in_their_order(self) -> None:
+        for query, refusal in {
+            "{ q(func: eq(bare, 1)) { name { uid } } !": "3 BadToken 40",
+            "{" * 33 + "x": "5 TooDeep 32",
+            "{ q(func: eq(bare, 1)) { name { uid } }": "4 BadSyntax 39",
+            "{ q(func: eq(bare, 1)) { name { uid } } }": "98 Unbuilt",
+            '{ q(func: eq(age, "x")) { uid } r(func: eq(bare, 1)) { uid } }': "9 NotIndexed bare eq",
+            '{ q(func: eq(age, "x")) @filter(has(~boss)) { uid } }': "9 NotIndexed boss ~",
+            "{ q(func: eq(count(boss), 1)) { uid } }": "9 NotIndexed boss count",
+            "{ q(func: ge(count(~boss), 1)) { uid } }": "9 NotIndexed boss count",
+            '{ q(func: uid(0x1)) @filter(regexp(bare, /(/) or eq(age, "x")) { uid } }': "10 BadLiteral bare",
+            '{ q(func: uid(0x1)) @filter(eq(age, "x") or regexp(bare, /(/)) { uid } }': "10 BadLiteral age",
+            '{ q(func: uid(0x1)) @filter(eq(boss, "0x1")) { uid } }': "10 BadLiteral boss",
+            '{ q(func: uid(0x1)) @filter(eq(count(nope), "x")) { uid } }': "10 BadLiteral nope",
+        }.items():
+            self.assertEqual(self.reply(query), f"error {refusal}", query)
+        self.assertEqual(plain.run(b"query 1 1\n!\n").replies, [b"error 1 NoSession 1\n"])
+
+    def test_forms_that_arent_built(self) -> None:
+        for form in ("{ name() }", "{ name {} }", "{ ~friend }", "{ count(friend) }", "{ count(uid) }", "{ x as age }",
+                     "{ val(x) }", "@cascade { name }", "@filter(uid(x)) { uid }", "@filter(uid_in(boss, x)) { uid }"):
+            self.assertEqual(self.reply(f"{{ q(func: has(name)) {form} }}"), "error 98 Unbuilt", form)
+        for query in ("{ q() {} }", "{ x as q(func: has(name)) {} }", "{ q(func: has(name), first: 1) {} }"):
+            self.assertEqual(self.reply(query), "error 98 Unbuilt", query)
+
+    def test_very_long_numbers(self) -> None:
+        zeros = "0" * 10_000
+        self.assertEqual(self.nodes(f"eq(age, {zeros}30)"), [1])
+        self.assertEqual(self.nodes(f'eq(age, "-{zeros}4")'), [2])
+        self.assertEqual(self.reply(f"{{ q(func: eq(age, 1{zeros})) {{ uid }} }}"), "error 4 BadSyntax 18")
+
+
+class Help(unittest.TestCase):
+    """The forms that the shell shows are built."""
+
+    def test_the_example_of_a_query_is_answered(self) -> None:
+        bodies = {name: "\n".join(EXAMPLES[name]).encode() for name in ("alter", "mutate", "query")}
+        script = b"alter %d\n%s\nbegin 1\n" % (len(bodies["alter"]), bodies["alter"])
+        for name in ("mutate", "query"):
+            script += b"%s 1 %d\n%s\n" % (name.encode(), len(bodies[name]), bodies[name])
+        answer = b'{"data":{"one":[{"name":"Ann"}],"some":[{"uid":"0x2","n":"Bob"}]}}'
+        self.assertEqual(plain.run(script).replies[-1].split(b"\n")[1], answer)
+
+
+class Patterns(unittest.TestCase):
+    """Patterns, as the part of their language that is read says."""
+
+    def test_where_they_are_found(self) -> None:
+        for text, found, others in (
+            ("a.c", ["xabcx", "a.c"], ["ac", "a\nc", "ABC"]),
+            ("^ab?$", ["a", "ab"], ["abb", "xa", "a\n"]),
+            ("[a-c]x*[^y]$", ["bz", "axxq"], ["by", "a", "dz"]),
+            (r"\.\/\$", ["./$"], ["a/$"]),
+            ("", ["", "a"], []),
+        ):
+            pattern = pattern_of(text.replace(r"\/", "/"), False)
+            self.assertEqual([one for one in found + others if pattern.is_in(one)], found, text)
+
+    def test_letters_of_any_case(self) -> None:
+        for text, found in {"straße": "STRAẞE", "σας": "ΣΑΣ", "[a-c]+$": "ABC", "K": "\u212a", "É": "é"}.items():
+            self.assertTrue(pattern_of(text, True).is_in(found), text)
+            self.assertFalse(pattern_of(text, False).is_in(found), text)
+        self.assertFalse(pattern_of("[^a]", True).is_in("A"))
+        self.assertFalse(pattern_of("i", True).is_in("İ"))
+
+    def test_what_is_no_pattern(self) -> None:
+        for text in ("(", "a(b", ")", "a)", "[a", "*a", "?", "+", r"\1", "[b-a]"):
+            with self.assertRaises(BadPattern, msg=text):
+                pattern_of(text, False)
+
+    def test_what_isnt_known(self) -> None:
+        for text in ("a**", "a|b", "(a)", "a{2}", r"\d", "[[:alpha:]]", "^*"):
+            with self.assertRaises(UnknownPattern, msg=text):
+                pattern_of(text, False)
+
+
+class Reading(unittest.TestCase):
+    """Trees of queries; the rows of table_queries have the grammar whole."""
+
+    def test_nots_are_counted(self) -> None:
+        block = read_query(f"{{ q(func: has(a)) @filter({'not ' * 5000}(not has(b))) {{ }} }}")[0]
+        part = block.directives[0].filter
+        assert part is not None
+        self.assertEqual((part.nots, part.atom.word), (5001, "has"))
+
+    def test_patterns_and_flags(self) -> None:
+        function = read_query(r"{ q(func: regexp(p, /a\/b\\/i)) { } }")[0].function
+        assert function is not None
+        self.assertEqual((function.of, function.values, function.folds), ("p", [r"a/b\\"], True))
+
+    def test_the_first_fault_decides(self) -> None:
+        for text, fault in (("{ q(func: eq(uid, 1)) { a a } ", 13), ("{ q(func: has(a)) { a a } ", 22), ("{", 1)):
+            with self.assertRaises(Fault) as caught:
+                read_query(text)
+            self.assertEqual((caught.exception.letter, caught.exception.offset), ("S", fault), text)
