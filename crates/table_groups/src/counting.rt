@@ -2,7 +2,7 @@
 ghost use Rattle.std.specs.Prelude.{◌≡◌, ◌≢◌, ◌+◌, [], true, IfOk};
 ghost use Rattle.std.specs.Arc.{arc_value};
 ghost use Rattle.dg_zero.specs.Offers.{IsSound, IsMadeOf};
-ghost use Rattle.dg_zero.specs.Worlds.{schema_at, graph_at};
+ghost use Rattle.dg_zero.specs.Worlds.{world, schema_at, graph_at};
 ghost use Rattle.table_groups.specs.Opened.{HasBegun, StayOpen, ends};
 
 use crate::fault::{Answer, Fault};
@@ -10,6 +10,7 @@ use crate::starts::{Start, drop_ended, drop_start, is_active_of, may_end};
 use dg_group::Pinned;
 use dg_node::{Cluster, ClusterFault, Owned};
 use dg_schema::Schema;
+use dg_txn::Present;
 use dg_values::OutOfMemory;
 use dg_zero::{Begun, CommitFault, Offer, Slip, ZeroFault};
 use std::alloc::Global;
@@ -48,6 +49,14 @@ impl Counting {
 
     pub(crate) fn owned(&self) -> &Owned {
         &self.owned
+    }
+
+    // The present graph. Nothing is appended.
+    pub(crate) fn present(&mut self, alloc: Global) -> Answer<Present>
+        ensures same { self.new ≡ self.old }
+        ensures present { IfOk result (λ p. p ≡ world self.old.history) }
+    {
+        Ok(self.owned.present(alloc)?)
     }
 
     // Begins a transaction of an author.

@@ -1,5 +1,6 @@
 // The state, its groups and open transactions.
-ghost use Rattle.std.specs.Prelude.{◌≡◌};
+ghost use Rattle.std.specs.Prelude.{◌≡◌, IfOk};
+ghost use Rattle.dg_zero.specs.Worlds.{world};
 
 use crate::counted;
 use crate::counting::{Counting, has_ended};
@@ -52,6 +53,13 @@ impl Kept {
             Some(at) => Ok(&self.sessions[at].txn),
             None => Err(Fault::Unfit),
         }
+    }
+
+    // The present graph. Nothing is appended.
+    pub(crate) fn present(&mut self, alloc: Global) -> Answer<Present>
+        ensures { IfOk result (λ p. p ≡ world self.old.history) }
+    {
+        self.counting.present(alloc)
     }
 
     // Begins a transaction under a number that has none, and answers its start.
