@@ -2,7 +2,7 @@
 ghost use Rattle.std.specs.Prelude.{◌≡◌, ◌≢◌, ◌+◌, [], true, IfOk};
 ghost use Rattle.std.specs.Arc.{arc_value};
 ghost use Rattle.dg_zero.specs.Offers.{IsSound, IsMadeOf};
-ghost use Rattle.dg_zero.specs.Worlds.{world, schema_at, graph_at};
+ghost use Rattle.dg_zero.specs.Worlds.{schema_at, graph_at};
 ghost use Rattle.table_groups.specs.Opened.{HasBegun, StayOpen, ends};
 
 use crate::fault::{Answer, Fault};
@@ -53,8 +53,7 @@ impl Counting {
 
     // The present graph. Nothing is appended.
     pub(crate) fn present(&mut self, alloc: Global) -> Answer<Present>
-        ensures same { self.new ≡ self.old }
-        ensures present { IfOk result (λ p. p ≡ world self.old.history) }
+        ensures stay { StayOpen self.old self.new }
     {
         Ok(self.owned.present(alloc)?)
     }

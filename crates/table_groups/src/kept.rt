@@ -1,6 +1,5 @@
 // The state, its groups and open transactions.
-ghost use Rattle.std.specs.Prelude.{◌≡◌, IfOk};
-ghost use Rattle.dg_zero.specs.Worlds.{world};
+ghost use Rattle.std.specs.Prelude.{◌≡◌};
 
 use crate::counted;
 use crate::counting::{Counting, has_ended};
@@ -56,9 +55,7 @@ impl Kept {
     }
 
     // The present graph. Nothing is appended.
-    pub(crate) fn present(&mut self, alloc: Global) -> Answer<Present>
-        ensures { IfOk result (λ p. p ≡ world self.old.history) }
-    {
+    pub(crate) fn present(&mut self, alloc: Global) -> Answer<Present> {
         self.counting.present(alloc)
     }
 
