@@ -68,6 +68,9 @@ pub committed_stay : (z w : Zero) (author : ℕ) (offer : Offer) (r : Result ℕ
 committed_stay z w author offer (Ok ts) ok err legal = stay_after z w author (commit_of offer ts) ok legal
 committed_stay z w author offer (Err fault) ok err legal = refused_stay z w author offer fault err legal
 
+pub same_stay : (z w : Zero) → w ≡ z → StayOpen z w
+same_stay z w is s o = subst (λ (y : Zero). IsOpen y.history s) (sym is) o
+
 -- ---- active starts
 
 active_then : (z w : Zero) (starts after : List Started) (author : ℕ) (event : Event) → starts ≡ active z.history → w ≡ and_then z author event → after ≡ active_after starts author event → after ≡ active w.history

@@ -10,6 +10,7 @@ use crate::starts::{Start, drop_ended, drop_start, is_active_of, may_end};
 use dg_group::Pinned;
 use dg_node::{Cluster, ClusterFault, Owned};
 use dg_schema::Schema;
+use dg_txn::Present;
 use dg_values::OutOfMemory;
 use dg_zero::{Begun, CommitFault, Offer, Slip, ZeroFault};
 use std::alloc::Global;
@@ -48,6 +49,13 @@ impl Counting {
 
     pub(crate) fn owned(&self) -> &Owned {
         &self.owned
+    }
+
+    // The present graph. Nothing is appended.
+    pub(crate) fn present(&mut self, alloc: Global) -> Answer<Present>
+        ensures stay { StayOpen self.old self.new }
+    {
+        Ok(self.owned.present(alloc)?)
     }
 
     // Begins a transaction of an author.

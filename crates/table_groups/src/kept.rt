@@ -54,6 +54,11 @@ impl Kept {
         }
     }
 
+    // The present graph. Nothing is appended.
+    pub(crate) fn present(&mut self, alloc: Global) -> Answer<Present> {
+        self.counting.present(alloc)
+    }
+
     // Begins a transaction under a number that has none, and answers its start.
     pub(crate) fn begin(&mut self, alloc: Global, number: u32) -> Answer<Result<u64, ZeroFault>> {
         if place_of(self.sessions.as_slice(), number).is_some() {

@@ -9,6 +9,7 @@ mod counting;
 mod fault;
 mod kept;
 mod listing;
+mod lookups;
 mod postings;
 mod rows;
 mod schemas;

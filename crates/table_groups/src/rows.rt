@@ -1,13 +1,13 @@
 // The rows by their commands.
 ghost use Rattle.std.specs.Prelude.{◌≡◌};
 
-use crate::counted;
 use crate::fault::{Answer, Fault};
 use crate::kept::Kept;
 use crate::listing::{list_text, offer_text};
 use crate::postings::{changes, postings_text, run_of};
 use crate::schemas::{schema_of, schema_text};
 use crate::words::{halved, listed, number, small, text, told, truth, words_of};
+use crate::{counted, lookups};
 use dg_graph::Snapshot;
 use dg_group::{GroupState, entries_of_histories, records_of_histories};
 use dg_keys::Key;
@@ -106,7 +106,7 @@ fn added(alloc: Global, kept: &mut Kept, command: &str, rest: &str) -> Answer<St
 }
 
 // The calls that append nothing.
-fn asked(alloc: Global, kept: &Kept, command: &str, name: &str, rest: &str) -> Answer<String> {
+fn asked(alloc: Global, kept: &mut Kept, command: &str, name: &str, rest: &str) -> Answer<String> {
     match command {
         "read" => {
             let (s, p) = halved(rest);
@@ -117,7 +117,21 @@ fn asked(alloc: Global, kept: &Kept, command: &str, name: &str, rest: &str) -> A
         "empty" => truth(alloc, kept.txn(small(name)?)?.is_empty()),
         "schema" => schema_text(alloc, kept.txn(small(name)?)?.schema()),
         "group" => group_text(alloc, kept, small(name)?),
-        _ => Err(Fault::Unfit),
+        _ => looked_up(alloc, kept, command, name, rest),
+    }
+}
+
+// The look-ups, in the present graph or as a transaction sees them.
+fn looked_up(
+    alloc: Global,
+    kept: &mut Kept,
+    command: &str,
+    name: &str,
+    rest: &str,
+) -> Answer<String> {
+    match name {
+        "now" => lookups::answer(alloc, &kept.present(alloc)?, command, rest),
+        _ => lookups::answer(alloc, kept.txn(small(name)?)?, command, rest),
     }
 }
 

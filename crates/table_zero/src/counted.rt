@@ -1,16 +1,19 @@
 // Calls that read lists, each time with a new count of reads.
-ghost use Rattle.std.specs.Prelude.{◌≡◌, ◌≢◌, ◌+◌, ◌<◌, ◌^◌, [], IfOk, length};
+ghost use Rattle.std.specs.Prelude.{◌≡◌, ◌≢◌, ◌+◌, ◌<◌, ◌^◌, [], true, IfOk, length};
 ghost use Rattle.dg_edges.specs.Deltas.{AreFitting};
 ghost use Rattle.dg_edges.specs.Expanding.{new_names};
 ghost use Rattle.dg_graph.specs.Graphs.{IsLawful};
 ghost use Rattle.dg_schema.specs.Definitions.{with_definitions};
 ghost use Rattle.dg_zero.specs.Listings.{AreGainsAndLosses};
 ghost use Rattle.dg_zero.specs.Offers.{IsSound, IsMadeOf};
+ghost use Rattle.table_zero.specs.Questions.{is_answered, found_in};
 
+use crate::lookups::Lookup;
 use dg_edges::{Resolved, conflict_keys, deltas_of, expand, offer_of, schema_deltas};
 use dg_graph::{Change, Plain, Snapshot};
 use dg_keys::{ConflictKey, Part};
 use dg_schema::Schema;
+use dg_uids::Uids;
 use dg_values::{Mem, Posting, Steps, Str};
 use dg_zero::Offer;
 use std::alloc::Global;
@@ -150,4 +153,51 @@ fn alter_parts_in<L: Ledger>(
 {
     let mut reads = Steps::<L>::new(blank);
     schema_deltas(alloc, at, newer, &mut reads)
+}
+
+// The nodes that a look-up finds.
+pub(crate) fn nodes<S: Snapshot>(alloc: Global, snap: &S, lookup: &Lookup) -> Mem<Uids>
+    requires answered { is_answered (S.declared snap.now) lookup.now ≡ true }
+    ensures { IfOk result (λ uids. uids ≡ found_in (S.graph snap.now) lookup.now) }
+{
+    nodes_in::<S, Brand>(alloc, snap, lookup, Blank::new(1))
+}
+
+fn nodes_in<S: Snapshot, L: Ledger>(
+    alloc: Global,
+    snap: &S,
+    lookup: &Lookup,
+    blank: Blank,
+) -> Mem<Uids>
+    requires name { blank.name ≡ L.name }
+    requires parts { blank.parts ≡ L.parts }
+    requires some { 0 < blank.parts }
+    requires answered { is_answered (S.declared snap.now) lookup.now ≡ true }
+    ensures { IfOk result (λ uids. uids ≡ found_in (S.graph snap.now) lookup.now) }
+{
+    let mut reads = Steps::<L>::new(blank);
+    match lookup {
+        Lookup::Subjects { p, o } => snap.subjects(alloc, p.as_str(), *o, &mut reads),
+        Lookup::Token { p, t } => snap.by_token(alloc, p.as_str(), t, &mut reads),
+        Lookup::Range {
+            p,
+            tokenizer,
+            low,
+            high,
+        } => snap.by_token_range(
+            alloc,
+            p.as_str(),
+            *tokenizer,
+            low.as_ref(),
+            high.as_ref(),
+            &mut reads,
+        ),
+        Lookup::Holders { p } => snap.holders(alloc, p.as_str(), &mut reads),
+        Lookup::Count {
+            p,
+            reverse,
+            low,
+            high,
+        } => snap.by_count(alloc, p.as_str(), *reverse, *low, *high, &mut reads),
+    }
 }

@@ -16,6 +16,7 @@ mod kept_zero;
 mod large;
 mod lawful;
 mod listing;
+mod lookups;
 mod oracles;
 mod postings;
 mod starts;

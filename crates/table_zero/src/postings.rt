@@ -6,6 +6,9 @@ use dg_graph::{Change, Triple};
 use dg_values::{Kind, Mem, OutOfMemory, Posting, Str, Value, read_value, write_value};
 use std::alloc::Global;
 
+// From how many nodes on a run is long.
+const LONG: usize = 10;
+
 // What a word stands for: digits for a node, and for a value its kind, a colon and its text.
 pub(crate) fn posting(alloc: Global, word: &str) -> Answer<Posting> {
     match word.split_once(':') {
@@ -14,6 +17,14 @@ pub(crate) fn posting(alloc: Global, word: &str) -> Answer<Posting> {
             Ok(Posting::Val(value))
         }
         None => Ok(Posting::Uid(number(word)?)),
+    }
+}
+
+// The value that a word stands for.
+pub(crate) fn value(alloc: Global, word: &str) -> Answer<Value> {
+    match posting(alloc, word)? {
+        Posting::Val(value) => Ok(value),
+        Posting::Uid(_) => Err(Fault::Unfit),
     }
 }
 
@@ -52,6 +63,29 @@ pub(crate) fn postings_text(alloc: Global, postings: &[Posting]) -> Mem<String> 
         texts.push(posting_text(alloc, posting)?)?;
     }
     listed(alloc, texts.as_slice())
+}
+
+// Nodes. Of a long run without a gap only the ends are told.
+pub(crate) fn nodes_text(alloc: Global, nodes: &[u64]) -> Mem<String> {
+    let mut texts = Vec::new(alloc);
+    for run in nodes.chunk_by(|a, b| a.checked_add(1) == Some(*b)) {
+        push_run(alloc, &mut texts, run)?;
+    }
+    listed(alloc, texts.as_slice())
+}
+
+// Adds a run of nodes.
+fn push_run(alloc: Global, texts: &mut Vec<String>, run: &[u64]) -> Mem<()> {
+    if let [first, .., last] = run
+        && LONG <= run.len()
+    {
+        texts.push(format!(in alloc; "{first} to {last}")?)?;
+        return Ok(());
+    }
+    for node in run {
+        texts.push(node.to_string(alloc)?)?;
+    }
+    Ok(())
 }
 
 // An operation: `set` or `del`, and the posting.

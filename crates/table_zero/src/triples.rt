@@ -3,12 +3,12 @@ ghost use Rattle.std.specs.Prelude.{◌≡◌};
 ghost use Rattle.dg_values.specs.Ascending.{Ascends};
 ghost use Rattle.dg_values.specs.Order.{posting_cmp};
 
-use crate::counted;
 use crate::fault::{Answer, Fault};
 use crate::ground::{Ground, schema_of, schema_text};
 use crate::large::pointed;
 use crate::postings::{changes, postings_text, triple, triple_text};
 use crate::words::{listed, number, sides, told, truth, words_of};
+use crate::{counted, lookups};
 use dg_graph::{
     Change, Triple, change_objects, graphs, is_of_subject, is_single, lists_of_graphs, look_ups,
 };
@@ -91,7 +91,7 @@ fn asked(alloc: Global, ground: &mut Ground, command: &str, rest: &str) -> Answe
         "objects" => objects(alloc, ground, rest),
         "snapshot" => snapshot(alloc, ground, rest),
         "change" => change(alloc, &ground.at.schema, rest),
-        _ => Err(Fault::Unfit),
+        _ => lookups::answer(alloc, &ground.at, command, rest),
     }
 }
 
