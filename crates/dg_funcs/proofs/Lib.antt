@@ -7,3 +7,9 @@ pub mod FilterLaws
 pub mod RootLaws
 pub mod EqualLaws
 pub mod TermLaws
+pub mod NarrowLaws
+pub mod CutLaws
+pub mod RangeLaws
+pub mod NumberLaws
+pub mod AllTermLaws
+pub mod NearLaws

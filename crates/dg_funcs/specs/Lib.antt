@@ -3,3 +3,6 @@ pub mod Truth
 pub mod Roots
 pub mod Tests
 pub mod Equal
+pub mod Filed
+pub mod Numbers
+pub mod Listed
