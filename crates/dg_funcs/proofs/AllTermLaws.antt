@@ -15,7 +15,7 @@ use Rattle.dg_sets.proofs.Sets.{has_passed, ascends_passed, any_at}
 use Rattle.dg_tokens.specs.Terms.{terms_of}
 use Rattle.dg_graph.specs.declared.change.Triple.{Triple}
 use Rattle.dg_graph.specs.Lookups.{has_token, holders}
-use Rattle.dg_graph.proofs.Passing.{Passing, passing, ascending_has}
+use Rattle.dg_graph.proofs.Passing.{passing, ascending_has}
 use Rattle.dg_graph.proofs.LookUpLaws.{where_ascend, holders_ascend}
 use Rattle.dg_check.specs.declared.parts.Func.TheVariants as funcs
 use Rattle.dg_check.specs.declared.vars.Variable.{Variable}
@@ -87,7 +87,7 @@ module _ (graph : List Triple) (p : List ℕ) where
       (under_all_ascend graph p tokenizers.Term (map (λ a. Text a) (ascending text_cmp (terms_of text))))
       (holders_ascend graph p)
       (λ n e. let s = passing text_cmp text_order (λ t. has_terms true (terms_of text) (terms_of t)) (texts_at graph p n) e in
-        under_terms_has n s.it s.there (ascending text_cmp (terms_of text)) (same s.it ∙ s.passes))
+      under_terms_has n s.it s.there (ascending text_cmp (terms_of text)) (same s.it ∙ s.passes))
       (λ n e. holds_some graph p (of_text (λ t. has_terms true (terms_of text) (terms_of t))) n (any_of_texts (λ t. has_terms true (terms_of text) (terms_of t)) (values_at graph p n) ∙ e))
     where
       test : ℕ → Bool

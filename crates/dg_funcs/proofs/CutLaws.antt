@@ -1,5 +1,5 @@
 -- A moment that is cut down doesn't come before an earlier one that is.
-use Rattle.std.proofs.Common.{◌≡◌, ℕ, zero, suc, ◌<◌, ◌≤◌, Bool, true, false, ℤ, pos, ◌≤ℤ◌, ◌<ℤ◌, ◌*ℤ◌, ◌-ℤ◌, ◌+ℤ◌, refl, sym, ap, ◌∙◌, subst, inl, inr, arith}
+use Rattle.std.proofs.Common.{◌≡◌, ℕ, zero, suc, ◌<◌, ◌≤◌, Bool, true, false, ℤ, pos, ◌≤ℤ◌, ◌*ℤ◌, ◌+ℤ◌, refl, subst, inl, inr, arith}
 use Rattle.std.specs.Prelude.{◌⊎◌, not, int_lt, if◌then◌else◌}
 use Rattle.std.specs.declared.cmp.Ordering.{Ordering}
 use Rattle.std.specs.declared.cmp.Ordering.TheVariants.{Less, Equal, Greater}
@@ -13,7 +13,7 @@ use Rattle.dg_values.specs.declared.kind.DatePart.{DatePart}
 use Rattle.dg_values.specs.declared.kind.DatePart.TheVariants as parts
 use Rattle.dg_values.specs.Instant.{Instant, first_second, last_second}
 use Rattle.dg_values.specs.Order.{moment_cmp}
-use Rattle.dg_values.specs.Calendar.{latest, year_of, month_of, day_number, seconds_of, truncated}
+use Rattle.dg_values.specs.Calendar.{latest, year_of, month_of, day_number, truncated}
 use Rattle.dg_values.proofs.Days.{latest-le, IsDay, first_of_month, first_of_year}
 use Rattle.dg_values.proofs.PrintedForms.{day_of_instant}
 

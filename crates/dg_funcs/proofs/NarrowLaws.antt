@@ -1,5 +1,5 @@
 -- Sets of nodes of which a function is asked: one that has each node at which it holds serves as well as all.
-use Rattle.std.proofs.Common.{◌≡◌, ℕ, Bool, true, false, List, [], ◌∷◌, refl, ap, sym, ◌∙◌}
+use Rattle.std.proofs.Common.{◌≡◌, ℕ, Bool, true, false, List, [], ◌∷◌, refl, sym, ◌∙◌}
 use Rattle.std.specs.Prelude.{◌&&◌, ◌||◌, filter}
 use Rattle.std.specs.List.{list_any}
 use Rattle.std.specs.Ordering.{nat_cmp}

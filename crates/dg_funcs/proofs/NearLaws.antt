@@ -1,15 +1,14 @@
 -- What is equal to a value is filed as it is.
 use Rattle.std.proofs.Common.{◌≡◌, ℕ, nat_le, Bool, true, false, List, [], ◌∷◌, map, flat_map, length, refl, ap, sym, subst, ◌∙◌, arith}
 use Rattle.std.proofs.lemmas.Bool.{le-leb, eqb-false}
-use Rattle.std.specs.Prelude.{◌&&◌, ◌||◌, ◌==◌, filter, filter_map, Option, Some, None}
+use Rattle.std.specs.Prelude.{◌&&◌, ◌||◌, ◌==◌, filter, filter_map, Option, Some}
 use Rattle.std.specs.List.{list_any, list_all}
 use Rattle.std.specs.declared.cmp.Ordering.{Ordering}
 use Rattle.std.specs.Ordering.{nat_cmp, is_eq}
 use Rattle.dg_values.specs.Order.{IsOrder, text_cmp, value_cmp}
-use Rattle.dg_values.specs.Ascending.{Ascends, ascending, has}
+use Rattle.dg_values.specs.Ascending.{ascending, has}
 use Rattle.dg_values.specs.declared.kind.Kind.{Kind}
 use Rattle.dg_values.specs.declared.kind.Tokenizer.{Tokenizer}
-use Rattle.dg_values.specs.declared.kind.Tokenizer.TheVariants as tokenizers
 use Rattle.dg_values.specs.declared.value.Value.{Value}
 use Rattle.dg_values.specs.declared.value.Value.TheVariants.{Int, Text, Bool as Truth, Time}
 use Rattle.dg_values.specs.declared.value.Posting.TheVariants.{Val}
@@ -21,12 +20,12 @@ use Rattle.dg_tokens.specs.Orders.{index_token_cmp}
 use Rattle.dg_tokens.proofs.TokenOrder.{index_token_order}
 use Rattle.dg_graph.specs.declared.change.Triple.{Triple}
 use Rattle.dg_graph.specs.Lookups.{has_token}
-use Rattle.dg_graph.proofs.Passing.{passing, ascending_has, ascending_ascends, some_ascending, any_same}
+use Rattle.dg_graph.proofs.Passing.{passing, ascending_has, ascending_ascends, some_ascending}
 use Rattle.dg_parse.specs.declared.query.CmpOp.TheVariants as ops
 use Rattle.dg_check.specs.declared.parts.Of.TheVariants as part
 use Rattle.dg_check.specs.declared.parts.Func.TheVariants as funcs
 use Rattle.dg_check.specs.declared.vars.Variable.{Variable}
-use Rattle.dg_funcs.specs.Truth.{text_in, texts_at, values_at, stands_to_any, has_terms, holds_at}
+use Rattle.dg_funcs.specs.Truth.{text_in, values_at, stands_to_any, has_terms, holds_at}
 use Rattle.dg_funcs.specs.Tests.{of_text}
 use Rattle.dg_funcs.specs.Equal.{token, filed_nodes}
 use Rattle.dg_funcs.specs.Filed.{filed_as}
@@ -109,9 +108,9 @@ module _ (graph : List Triple) (p : List ℕ) where
       same_of_values graph p (stands_to_any ops.Eq values) (under_any_terms graph p values)
       (ascending_ascends nat_cmp nat_order (flat_map (under_terms graph p) values))
       (λ n e. let s = shared values n e in
-        ascending_has nat_cmp nat_order (flat_map (under_terms graph p) values) n
-        ∙ (flat_has (under_terms graph p) values n
-        ∙ any_at value_cmp value_order (λ v. has nat_cmp (under_terms graph p v) n) values s.given (under_own n s.given (none_of values s.given none s.asked) s.there) s.asked))
+      ascending_has nat_cmp nat_order (flat_map (under_terms graph p) values) n
+      ∙ (flat_has (under_terms graph p) values n
+      ∙ any_at value_cmp value_order (λ v. has nat_cmp (under_terms graph p v) n) values s.given (under_own n s.given (none_of values s.given none s.asked) s.there) s.asked))
 
   -- ---- by one token each
 
@@ -156,6 +155,6 @@ module _ (graph : List Triple) (p : List ℕ) where
       same_of_values graph p (stands_to_any ops.Eq values) (filed_nodes graph p tokenizer (ascending value_cmp ws))
       (ascending_ascends nat_cmp nat_order (flat_map (under graph p tokenizer) (ascending value_cmp ws)))
       (λ n e. let s = shared values n e in let f = filed_among tokenizer values ws s.given same s.asked in
-        ascending_has nat_cmp nat_order (flat_map (under graph p tokenizer) (ascending value_cmp ws)) n
-        ∙ (flat_has (under graph p tokenizer) (ascending value_cmp ws) n
-        ∙ any_at value_cmp value_order (λ v. has nat_cmp (under graph p tokenizer v) n) (ascending value_cmp ws) f.filed (under_filed tokenizer n s.given f.filed f.is s.there) (ascending_has value_cmp value_order ws f.filed ∙ f.among)))
+      ascending_has nat_cmp nat_order (flat_map (under graph p tokenizer) (ascending value_cmp ws)) n
+      ∙ (flat_has (under graph p tokenizer) (ascending value_cmp ws) n
+      ∙ any_at value_cmp value_order (λ v. has nat_cmp (under graph p tokenizer v) n) (ascending value_cmp ws) f.filed (under_filed tokenizer n s.given f.filed f.is s.there) (ascending_has value_cmp value_order ws f.filed ∙ f.among)))

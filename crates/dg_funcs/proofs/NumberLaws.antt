@@ -1,22 +1,18 @@
 -- Nodes by their numbers.
-use Rattle.std.proofs.Common.{◌≡◌, ℕ, ℤ, pos, ◌≤◌, nat_le, Bool, true, false, cond, not, List, [], ◌∷◌, map, flat_map, length, refl, ap, sym, ◌∙◌, arith}
+use Rattle.std.proofs.Common.{◌≡◌, ℕ, ℤ, pos, ◌≤◌, nat_le, Bool, true, false, cond, not, List, [], ◌∷◌, length, refl, ap, sym, ◌∙◌, arith}
 use Rattle.std.specs.Prelude.{◌&&◌, ◌||◌, filter, Option}
 use Rattle.std.specs.List.{list_any}
 use Rattle.std.proofs.lemmas.Bool.{le-leb, leb-true}
 use Rattle.std.specs.declared.cmp.Ordering.{Ordering}
 use Rattle.std.specs.declared.cmp.Ordering.TheVariants.{Less, Equal, Greater}
-use Rattle.std.specs.Ordering.{nat_cmp, int_cmp, is_eq, is_le, is_lt, is_ge, is_gt}
-use Rattle.dg_values.specs.Ascending.{ascending, has}
+use Rattle.std.specs.Ordering.{int_cmp, is_eq, is_le, is_lt, is_ge, is_gt}
 use Rattle.dg_values.specs.declared.kind.Kind.{Kind}
 use Rattle.dg_values.specs.declared.value.Value.TheVariants.{Int}
-use Rattle.dg_sets.proofs.MadeOrders.{nat_order}
-use Rattle.dg_sets.proofs.Sets.{one_list, has_joined, has_passed, ascends_passed}
 use Rattle.dg_uids.specs.Sets.{lacking}
 use Rattle.dg_graph.specs.declared.change.Triple.{Triple}
 use Rattle.dg_graph.specs.Graphs.{objects}
-use Rattle.dg_graph.specs.Lookups.{subjects_of, holders, pointed_to, by_count, has_number, number_of}
-use Rattle.dg_graph.proofs.Passing.{ascending_has, ascending_ascends}
-use Rattle.dg_graph.proofs.LookUpLaws.{counted_are, counted_ascend}
+use Rattle.dg_graph.specs.Lookups.{holders, pointed_to, by_count, has_number, number_of}
+use Rattle.dg_graph.proofs.LookUpLaws.{counted_are}
 use Rattle.dg_values.specs.declared.value.Posting.TheVariants.{Uid}
 use Rattle.dg_values.specs.Order.{posting_cmp}
 use Rattle.dg_parse.specs.declared.query.CmpOp.{CmpOp}
@@ -25,7 +21,7 @@ use Rattle.dg_parse.specs.declared.query.QEdge.{QEdge}
 use Rattle.dg_check.specs.declared.parts.Of.TheVariants as part
 use Rattle.dg_check.specs.declared.parts.Func.TheVariants as funcs
 use Rattle.dg_check.specs.declared.vars.Variable.{Variable}
-use Rattle.dg_funcs.specs.Truth.{stands, stands_to_any, count_along}
+use Rattle.dg_funcs.specs.Truth.{stands, count_along}
 use Rattle.dg_funcs.specs.Roots.{nodes_with, root_nodes}
 use Rattle.dg_funcs.specs.Numbers.{numbered, standing}
 use Rattle.dg_funcs.proofs.PassLaws.{or_false, filter_same, filter_true, lacking_passed}

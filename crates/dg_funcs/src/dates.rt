@@ -23,11 +23,7 @@ use std::alloc::Global;
 use std::sync::ledger::Ledger;
 
 // The values under which an index files these, where it files each.
-fn all_filed_as(
-    alloc: Global,
-    tokenizer: Tokenizer,
-    values: &[Value],
-) -> Mem<Option<Vec<Value>>>
+fn all_filed_as(alloc: Global, tokenizer: Tokenizer, values: &[Value]) -> Mem<Option<Vec<Value>>>
     ensures { IfOk result (λ o. IfSome o (λ v. map (λ w. Some w) v.items ≡ map (filed_as tokenizer) values.now)) }
 {
     let mut found = Vec::new(alloc);

@@ -1,4 +1,4 @@
-use Rattle.std.proofs.Common.{◌≡◌, ℕ, true, ◌<◌, take, length, get_or, ap, sym, ◌∙◌, arith}
+use Rattle.std.proofs.Common.{◌≡◌, true, ◌<◌, take, length, get_or, ap, sym, ◌∙◌, arith}
 use Rattle.std.specs.Prelude.{filter}
 use Rattle.std.specs.List.{list_all}
 use Rattle.std.specs.Ordering.{nat_cmp}
@@ -22,8 +22,7 @@ loop-value-preserved g c =
     let values = c.args.values.now in
     let i = c.loop-value.value-index in
     let lt : i < length values = omega (arith, c.loop-value-test.true) in
-    let here : c.in_ok-listed.listed ≡ under graph p tokenizer (get_or values i c.value-item.result) = c.in_ok-listed.ensures.nodes ∙ ap (under graph p tokenizer) c.value-item.is in
-    (
+    let here : c.in_ok-listed.listed ≡ under graph p tokenizer (get_or values i c.value-item.result) = c.in_ok-listed.ensures.nodes ∙ ap (under graph p tokenizer) c.value-item.is in (
       c.in_ok-left.ensures ∙ ((λ j. filter (λ n. has nat_cmp (here j) n) (c.loop-value.invariant.0 j)) ∙ all_more (λ n v. is_under graph p tokenizer n v) values i c.value-item.result c.args.nodes lt),
       omega (arith, c.loop-value.invariant.1, c.in_ok-listed.ensures.reads),
     )

@@ -1,4 +1,4 @@
-use Rattle.std.proofs.Common.{◌≡◌, ℕ, List, [], ◌∷◌, sym, subst, ◌∙◌}
+use Rattle.std.proofs.Common.{◌≡◌, ℕ, List, sym, subst, ◌∙◌}
 use Rattle.std.specs.Prelude.{IfOk, IfSome, filter, Option, Some}
 use Rattle.dg_values.specs.declared.value.Value.{Value}
 use Rattle.dg_graph.specs.Lookups.{by_token_range}

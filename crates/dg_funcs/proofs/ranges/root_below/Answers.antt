@@ -1,8 +1,7 @@
-use Rattle.std.proofs.Common.{◌≡◌, ℕ, List, [], ◌∷◌, sym, ap, subst, ◌∙◌}
+use Rattle.std.proofs.Common.{◌≡◌, ℕ, List, [], ◌∷◌, sym, subst}
 use Rattle.std.specs.Prelude.{IfOk, filter, Some, None}
 use Rattle.dg_values.specs.declared.kind.Tokenizer.TheVariants as tokenizers
 use Rattle.dg_values.specs.declared.value.Value.{Value}
-use Rattle.dg_values.specs.declared.value.Value.TheVariants.{Int}
 use Rattle.dg_graph.specs.Lookups.{by_token_range}
 use Rattle.dg_check.specs.declared.parts.Func.{Func}
 use Rattle.dg_check.specs.declared.parts.Func.TheVariants as funcs
