@@ -10,3 +10,9 @@ pub mod TermLaws
 pub mod FoundLaws
 pub mod MeaningLaws
 pub mod FilterMeanings
+pub mod NarrowLaws
+pub mod CutLaws
+pub mod RangeLaws
+pub mod NumberLaws
+pub mod AllTermLaws
+pub mod NearLaws

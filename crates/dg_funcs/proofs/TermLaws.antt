@@ -41,7 +41,7 @@ has_term a (Val (Truth b)) = refl
 has_term a (Val (Time m)) = refl
 
 module _ (graph : List Triple) (p : List ℕ) where
-  one : (n : ℕ) (a : List ℕ) → has nat_cmp (subjects_where (has_token (token tokenizers.Term (Text a))) graph p) n ≡ list_any (λ t. has text_cmp (terms_of t) a) (texts_at graph p n)
+  pub one : (n : ℕ) (a : List ℕ) → has nat_cmp (subjects_where (has_token (token tokenizers.Term (Text a))) graph p) n ≡ list_any (λ t. has text_cmp (terms_of t) a) (texts_at graph p n)
   one n a =
       where_are (has_token (token tokenizers.Term (Text a))) graph p n
       ∙ (any_by (has_token (token tokenizers.Term (Text a))) (in_text (λ t. has text_cmp (terms_of t) a)) (has_term a) (objects graph p n)

@@ -5,3 +5,6 @@ pub mod Tests
 pub mod Equal
 pub mod Meaning
 pub mod Laws
+pub mod Filed
+pub mod Numbers
+pub mod Listed

@@ -21,8 +21,8 @@ use dg_values::{Mem, OutOfMemory, Steps, Str, Tokenizer, Value};
 use std::alloc::Global;
 use std::sync::ledger::Ledger;
 
-// These texts as values.
-fn as_values(alloc: Global, texts: &[Str]) -> Mem<Vec<Value>>
+/// These texts as values.
+pub(crate) fn as_values(alloc: Global, texts: &[Str]) -> Mem<Vec<Value>>
     ensures { IfOk result (λ v. v.items ≡ map (λ t. values.Text t) texts.now) }
 {
     let mut made = Vec::new(alloc);
@@ -32,8 +32,8 @@ fn as_values(alloc: Global, texts: &[Str]) -> Mem<Vec<Value>>
     Ok(made)
 }
 
-// The terms of a text as values.
-fn term_values(alloc: Global, text: &Str) -> Mem<Vec<Value>>
+/// The terms of a text as values, each once.
+pub(crate) fn term_values(alloc: Global, text: &Str) -> Mem<Vec<Value>>
     ensures { IfOk result (λ v. v.items ≡ map (λ t. values.Text t) (ascending text_cmp (terms_of text.now))) }
 {
     let asked = asked_terms(alloc, text)?;

@@ -38,8 +38,8 @@ fn values_of(alloc: Global, objects: Vec<Posting>) -> Mem<Vec<Value>>
     Ok(values)
 }
 
-// These values, in order and each once.
-fn distinct(alloc: Global, values: &[Value]) -> Mem<Vec<Value>>
+/// These values, in order and each once.
+pub(crate) fn distinct(alloc: Global, values: &[Value]) -> Mem<Vec<Value>>
     ensures { IfOk result (λ v. v.items ≡ ascending value_cmp values.now) }
 {
     let objects = in_order(objects_of(alloc, values)?);

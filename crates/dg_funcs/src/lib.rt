@@ -1,16 +1,22 @@
 //! Functions and filters of plans: where they hold, and which nodes a function gives at a root.
 #![tactic(auto)]
 
+mod allterms;
 mod anyterms;
 mod asked;
 mod comparing;
+mod dates;
 mod equal;
+mod equalterms;
 mod filtering;
 mod following;
 mod held;
 mod indexes;
 mod laws;
 mod matching;
+mod numbers;
+mod ordered;
+mod ranges;
 mod roots;
 mod terms;
 mod variables;

@@ -9,16 +9,21 @@ ghost use Rattle.dg_check.specs.declared.parts.Of.TheVariants as part;
 ghost use Rattle.dg_check.specs.Vars.{nodes_of};
 ghost use Rattle.dg_funcs.specs.Roots.{nodes_with, nodes_of_part, candidates, root_nodes};
 
+use crate::allterms::root_of_all_terms;
 use crate::anyterms::root_of_any_term;
+use crate::dates::equal_by_dates;
 use crate::equal::equal_by_index;
+use crate::equalterms::equal_by_terms;
 use crate::held::held;
-use crate::indexes::whole_index;
+use crate::indexes::{is_indexed, whole_index};
 use crate::named;
+use crate::numbers::{has_numbers, pointed_by_numbers, root_between_numbers, root_of_numbers};
+use crate::ranges::{root_of_between, root_of_compared};
 use dg_check::{Func, Of, Vars};
 use dg_graph::Snapshot;
 use dg_parse::{CmpOp, QEdge};
 use dg_uids::Uids;
-use dg_values::{Mem, OutOfMemory, Posting, Steps, Value};
+use dg_values::{Mem, OutOfMemory, Posting, Steps, Tokenizer, Value};
 use std::alloc::Global;
 use std::sync::ledger::Ledger;
 
@@ -76,8 +81,25 @@ fn pointed_to<S: Snapshot, L: Ledger>(
     Ok(Uids::gathered(found))
 }
 
-// The nodes that have an object by an edge, or to which a subject points.
-fn nodes_with<S: Snapshot, L: Ledger>(
+// The nodes that any subject points to. Where there are lists of nodes by their numbers of subjects no list of a node is
+// read.
+fn nodes_pointed_to<S: Snapshot, L: Ledger>(
+    alloc: Global,
+    snap: &S,
+    p: &str,
+    reads: &mut Steps<L>,
+) -> Mem<Uids>
+    ensures { IfOk result (λ uids. uids ≡ pointed_to (S.graph snap.now) p.now) }
+{
+    if has_numbers(snap, p, true) {
+        pointed_by_numbers(alloc, snap, p, reads)
+    } else {
+        pointed_to(alloc, snap, p, reads)
+    }
+}
+
+/// The nodes that have an object by an edge, or to which a subject points.
+pub(crate) fn nodes_with<S: Snapshot, L: Ledger>(
     alloc: Global,
     snap: &S,
     edge: &QEdge,
@@ -86,7 +108,7 @@ fn nodes_with<S: Snapshot, L: Ledger>(
     ensures { IfOk result (λ uids. uids ≡ nodes_with (S.graph snap.now) edge.now) }
 {
     if edge.back {
-        pointed_to(alloc, snap, edge.pred.as_str(), reads)
+        nodes_pointed_to(alloc, snap, edge.pred.as_str(), reads)
     } else {
         snap.holders(alloc, edge.pred.as_str(), reads)
     }
@@ -154,6 +176,26 @@ pub(crate) fn root_by_search<S: Snapshot, L: Ledger>(
     held(alloc, snap, func, &nodes, vars, reads)
 }
 
+// The nodes that have a value equal to one of these: by an index of terms or of dates, where there is one.
+fn root_of_similar<S: Snapshot, L: Ledger>(
+    alloc: Global,
+    snap: &S,
+    func: &Func,
+    p: &str,
+    values: &[Value],
+    vars: &Vars,
+    reads: &mut Steps<L>,
+) -> Mem<Uids>
+    requires equal { (kind : Option Kind) × (func.now ≡ funcs.Cmp ops.Eq (part.Pred p.now) kind values.now) }
+    ensures { IfOk result (λ uids. uids ≡ root_nodes (S.graph snap.now) vars.now.variables func.now) }
+{
+    if is_indexed(snap, p, Tokenizer::Term) {
+        equal_by_terms(alloc, snap, func, p, values, vars, reads)
+    } else {
+        equal_by_dates(alloc, snap, func, p, values, vars, reads)
+    }
+}
+
 // The nodes that have a value equal to one of these: by an index under which they are filed, where there is one.
 fn root_of_equal<S: Snapshot, L: Ledger>(
     alloc: Global,
@@ -169,14 +211,98 @@ fn root_of_equal<S: Snapshot, L: Ledger>(
 {
     match whole_index(snap, p, values) {
         Some(tokenizer) => equal_by_index(alloc, snap, p, tokenizer, values, reads),
-        None => root_by_search(alloc, snap, func, vars, reads),
+        None => root_of_similar(alloc, snap, func, p, values, vars, reads),
+    }
+}
+
+// The nodes of which what is compared stands so to one of these values.
+fn root_of_comparison<S: Snapshot, L: Ledger>(
+    alloc: Global,
+    snap: &S,
+    func: &Func,
+    op: CmpOp,
+    of: &Of,
+    values: &[Value],
+    vars: &Vars,
+    reads: &mut Steps<L>,
+) -> Mem<Uids>
+    requires given { (kind : Option Kind) × (func.now ≡ funcs.Cmp op of.now kind values.now) }
+    ensures { IfOk result (λ uids. uids ≡ root_nodes (S.graph snap.now) vars.now.variables func.now) }
+{
+    match of {
+        Of::Pred(p) => root_of_values(alloc, snap, func, op, p.as_str(), values, vars, reads),
+        Of::Count(edge) => root_of_numbers(alloc, snap, func, op, edge, values, vars, reads),
+        Of::Val(_) => root_by_search(alloc, snap, func, vars, reads),
+    }
+}
+
+// The same of a predicate's values.
+fn root_of_values<S: Snapshot, L: Ledger>(
+    alloc: Global,
+    snap: &S,
+    func: &Func,
+    op: CmpOp,
+    p: &str,
+    values: &[Value],
+    vars: &Vars,
+    reads: &mut Steps<L>,
+) -> Mem<Uids>
+    requires given { (kind : Option Kind) × (func.now ≡ funcs.Cmp op (part.Pred p.now) kind values.now) }
+    ensures { IfOk result (λ uids. uids ≡ root_nodes (S.graph snap.now) vars.now.variables func.now) }
+{
+    match op {
+        CmpOp::Eq => root_of_equal(alloc, snap, func, p, values, vars, reads),
+        CmpOp::Le => root_of_compared(alloc, snap, func, op, p, values, vars, reads),
+        CmpOp::Lt => root_of_compared(alloc, snap, func, op, p, values, vars, reads),
+        CmpOp::Ge => root_of_compared(alloc, snap, func, op, p, values, vars, reads),
+        CmpOp::Gt => root_of_compared(alloc, snap, func, op, p, values, vars, reads),
+    }
+}
+
+// The nodes of which what is compared lies between two values.
+fn root_of_span<S: Snapshot, L: Ledger>(
+    alloc: Global,
+    snap: &S,
+    func: &Func,
+    of: &Of,
+    values: &[Value],
+    vars: &Vars,
+    reads: &mut Steps<L>,
+) -> Mem<Uids>
+    requires given { (kind : Option Kind) × (func.now ≡ funcs.Between of.now kind values.now) }
+    ensures { IfOk result (λ uids. uids ≡ root_nodes (S.graph snap.now) vars.now.variables func.now) }
+{
+    match of {
+        Of::Pred(p) => root_of_between(alloc, snap, func, p.as_str(), values, vars, reads),
+        Of::Count(edge) => root_between_numbers(alloc, snap, func, edge, values, vars, reads),
+        Of::Val(_) => root_by_search(alloc, snap, func, vars, reads),
     }
 }
 
 /// The nodes that a function gives at a root. The error is want of memory.
 ///
-/// An index is asked for `eq` of a predicate with an exact, hash, int or bool one, and for `anyofterms`; `uid` and `has`
-/// need no truth of a node. For all else each candidate is asked.
+/// Where the schema keeps lists that serve, they are read, and then the objects of each node that they give, but for those
+/// rows that say it is told by the lists alone:
+///
+/// | Function | Lists that are read |
+/// |---|---|
+/// | `uid` | none, and no node is asked |
+/// | `has(p)` | those by which all nodes with an object are found; they tell alone |
+/// | `has(~p)` with `@reverse` and `@count` | the same, and one for each number of subjects; they tell alone |
+/// | `eq` by exact, hash, int or bool | one for each distinct value; they tell alone |
+/// | `eq` by term | one for each distinct term of each value, where each has one |
+/// | `eq` by hour, day, month or year | one for each distinct hour, day, month or year of a value |
+/// | `between` by exact, int, hour, day, month or year | those of the range between the two, both included |
+/// | `le`, `lt` of a number, by int | those of the range up to the number |
+/// | `ge`, `gt` of a moment, by hour, day, month or year | those of the range from its hour, day, month or year on |
+/// | `anyofterms` by term | one for each distinct term; they tell alone |
+/// | `allofterms` by term | one for each distinct term |
+/// | `eq`, `le`, `lt` of `count` to one value, and `between`, with `@count` | one for each number that stands so; they tell alone |
+/// | `ge`, `gt` of `count` to one value, with `@count` | one for each number that doesn't, and all nodes with an object; they tell alone |
+///
+/// For all else each node that can pass is asked: each with an object of the predicate, or with a value of the variable. So
+/// for other comparisons of values, as a graph may have values of several kinds, which stand below or above those that the
+/// index lists.
 pub fn root<S: Snapshot, L: Ledger>(
     alloc: Global,
     snap: &S,
@@ -189,30 +315,27 @@ pub fn root<S: Snapshot, L: Ledger>(
     match func {
         Func::Uid(names) => named(alloc, vars, names.as_slice()),
         Func::Has(edge) => nodes_with(alloc, snap, edge, reads),
-        Func::Cmp { op, of, values, .. } => match op {
-            CmpOp::Eq => match of {
-                Of::Pred(p) => {
-                    root_of_equal(
-                        alloc,
-                        snap,
-                        func,
-                        p.as_str(),
-                        values.as_slice(),
-                        vars,
-                        reads,
-                    )
-                }
-                _ => root_by_search(alloc, snap, func, vars, reads),
-            },
-            _ => root_by_search(alloc, snap, func, vars, reads),
-        },
+        Func::Cmp { op, of, values, .. } => root_of_comparison(
+            alloc,
+            snap,
+            func,
+            *op,
+            of,
+            values.as_slice(),
+            vars,
+            reads,
+        ),
+        Func::Between { of, values, .. } => {
+            root_of_span(alloc, snap, func, of, values.as_slice(), vars, reads)
+        }
         Func::Terms { all, pred, text } => {
             if *all {
-                root_by_search(alloc, snap, func, vars, reads)
+                root_of_all_terms(alloc, snap, func, pred.as_str(), text, vars, reads)
             } else {
                 root_of_any_term(alloc, snap, func, pred.as_str(), text, vars, reads)
             }
         }
-        _ => root_by_search(alloc, snap, func, vars, reads),
+        Func::Regexp { .. } => root_by_search(alloc, snap, func, vars, reads),
+        Func::UidIn { .. } => root_by_search(alloc, snap, func, vars, reads),
     }
 }

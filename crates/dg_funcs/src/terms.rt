@@ -79,8 +79,8 @@ fn texts_of(alloc: Global, tokens: Vec<IndexToken>) -> Mem<Vec<Str>>
     Ok(texts)
 }
 
-// The terms of a value.
-fn terms_of_value(alloc: Global, value: &Value) -> Mem<TermSet>
+/// The terms of a value; none where it is no text.
+pub(crate) fn terms_of_value(alloc: Global, value: &Value) -> Mem<TermSet>
     ensures { IfOk result (λ terms. terms ≡ ascending text_cmp (value_terms value.now)) }
 {
     let tokens = tokens_of(alloc, Tokenizer::Term, value)?;

@@ -1,0 +1,223 @@
+-- Which nodes the range of an index lists.
+use Rattle.std.proofs.Common.{◌≡◌, ℕ, ℤ, Bool, true, false, List, [], ◌∷◌, refl, ap, sym, subst, ◌∙◌, ◌≤ℤ◌, arith}
+use Rattle.jiff_core.proofs.SignedLemmas.{signed_arith}
+use Rattle.std.specs.Prelude.{◌&&◌, ◌||◌, filter, Option, Some, None}
+use Rattle.std.specs.List.{list_any}
+use Rattle.std.specs.declared.cmp.Ordering.{Ordering}
+use Rattle.std.specs.declared.cmp.Ordering.TheVariants.{Less, Equal, Greater}
+use Rattle.std.specs.Ordering.{is_le, is_ge, ordering_reverse}
+use Rattle.dg_values.specs.Order.{value_cmp}
+use Rattle.dg_values.specs.declared.kind.Kind.{Kind}
+use Rattle.dg_values.specs.declared.kind.DatePart.{DatePart}
+use Rattle.dg_values.specs.declared.kind.DatePart.TheVariants as parts
+use Rattle.dg_values.specs.declared.kind.Tokenizer.{Tokenizer}
+use Rattle.dg_values.specs.declared.kind.Tokenizer.TheVariants as tokenizers
+use Rattle.dg_values.specs.declared.value.Value.{Value}
+use Rattle.dg_values.specs.declared.value.Value.TheVariants.{Int, Text, Bool as Truth, Time}
+use Rattle.dg_values.specs.declared.value.Posting.TheVariants.{Val}
+use Rattle.dg_values.specs.Instant.{Instant, IsInstant}
+use Rattle.dg_values.specs.Calendar.{truncated}
+use Rattle.dg_values.proofs.OrderLaws.{value_order}
+use Rattle.dg_tokens.specs.Tokens.{one_token, tokens_of}
+use Rattle.dg_graph.specs.declared.change.Triple.{Triple}
+use Rattle.dg_graph.specs.Lookups.{is_from, is_up_to, has_token_between, by_token_range}
+use Rattle.dg_parse.specs.declared.query.CmpOp.{CmpOp}
+use Rattle.dg_check.specs.declared.parts.Of.TheVariants as part
+use Rattle.dg_check.specs.declared.parts.Func.TheVariants as funcs
+use Rattle.dg_check.specs.declared.vars.Variable.{Variable}
+use Rattle.dg_funcs.specs.Truth.{stands, stands_to_any, is_between, holds_at}
+use Rattle.dg_funcs.specs.Roots.{root_nodes}
+use Rattle.dg_funcs.specs.Filed.{filed_as, IsInYears}
+use Rattle.dg_funcs.proofs.PassLaws.{or_false}
+use Rattle.dg_funcs.proofs.NarrowLaws.{same_of_listed}
+use Rattle.dg_funcs.proofs.CutLaws.{InYears, cut_in_order, secs_in_order}
+
+-- what is filed has one token
+pub one_of : (tokenizer : Tokenizer) (v w : Value) → filed_as tokenizer v ≡ Some w → tokens_of tokenizer v ≡ one_token tokenizer w
+one_of tokenizers.Exact (Text t) w e = let same : Text t ≡ w = cc in ap (one_token tokenizers.Exact) same
+one_of tokenizers.Exact (Int n) w e = absurd (cc)
+one_of tokenizers.Exact (Truth b) w e = absurd (cc)
+one_of tokenizers.Exact (Time m) w e = absurd (cc)
+one_of tokenizers.Int (Int n) w e = let same : Int n ≡ w = cc in ap (one_token tokenizers.Int) same
+one_of tokenizers.Int (Text t) w e = absurd (cc)
+one_of tokenizers.Int (Truth b) w e = absurd (cc)
+one_of tokenizers.Int (Time m) w e = absurd (cc)
+one_of tokenizers.Hour (Time m) w e = let same : Time (truncated parts.Hour m) ≡ w = cc in ap (one_token tokenizers.Hour) same
+one_of tokenizers.Hour (Int n) w e = absurd (cc)
+one_of tokenizers.Hour (Text t) w e = absurd (cc)
+one_of tokenizers.Hour (Truth b) w e = absurd (cc)
+one_of tokenizers.Day (Time m) w e = let same : Time (truncated parts.Day m) ≡ w = cc in ap (one_token tokenizers.Day) same
+one_of tokenizers.Day (Int n) w e = absurd (cc)
+one_of tokenizers.Day (Text t) w e = absurd (cc)
+one_of tokenizers.Day (Truth b) w e = absurd (cc)
+one_of tokenizers.Month (Time m) w e = let same : Time (truncated parts.Month m) ≡ w = cc in ap (one_token tokenizers.Month) same
+one_of tokenizers.Month (Int n) w e = absurd (cc)
+one_of tokenizers.Month (Text t) w e = absurd (cc)
+one_of tokenizers.Month (Truth b) w e = absurd (cc)
+one_of tokenizers.Year (Time m) w e = let same : Time (truncated parts.Year m) ≡ w = cc in ap (one_token tokenizers.Year) same
+one_of tokenizers.Year (Int n) w e = absurd (cc)
+one_of tokenizers.Year (Text t) w e = absurd (cc)
+one_of tokenizers.Year (Truth b) w e = absurd (cc)
+one_of tokenizers.Hash v w e = absurd (cc)
+one_of tokenizers.Term v w e = absurd (cc)
+one_of tokenizers.Trigram v w e = absurd (cc)
+one_of tokenizers.Bool v w e = absurd (cc)
+
+-- and is listed where this lies between the ends
+listed : (tokenizer : Tokenizer) (v w : Value) (low high : Option Value) → filed_as tokenizer v ≡ Some w → is_from low w ≡ true → is_up_to high w ≡ true → has_token_between tokenizer low high (Val v) ≡ true
+listed tokenizer v w low high e a b =
+    ap (list_any (λ t. is_from low t.value && is_up_to high t.value)) (one_of tokenizer v w e) ∙ λ i. (a i && b i) || false
+
+-- ---- orders
+
+turned : (o : Ordering) → is_ge (ordering_reverse o) ≡ is_le o
+turned Less = refl
+turned Equal = refl
+turned Greater = refl
+
+from_above : (v a : Value) → is_ge (value_cmp v a) ≡ true → is_le (value_cmp a v) ≡ true
+from_above v a h = sym (ap is_ge (value_order.antisymm v a) ∙ turned (value_cmp a v)) ∙ h
+
+and_left : (a b : Bool) → (a && b) ≡ true → a ≡ true
+and_left true b e = refl
+and_left false b e = e
+
+and_right : (a b : Bool) → (a && b) ≡ true → b ≡ true
+and_right true b e = e
+and_right false b e = absurd (cc)
+
+module _ (a b v : Value) (h : is_between (a ∷ b ∷ []) v ≡ true) where
+  low_end : is_le (value_cmp a v) ≡ true
+  low_end = from_above v a (and_left (is_ge (value_cmp v a)) (is_le (value_cmp v b)) h)
+
+  high_end : is_le (value_cmp v b) ≡ true
+  high_end = and_right (is_ge (value_cmp v a)) (is_le (value_cmp v b)) h
+
+-- ---- between two values
+
+exact_between : (a b v x y : Value) → filed_as tokenizers.Exact a ≡ Some x → filed_as tokenizers.Exact b ≡ Some y → is_between (a ∷ b ∷ []) v ≡ true → has_token_between tokenizers.Exact (Some x) (Some y) (Val v) ≡ true
+exact_between (Text a) (Text b) (Text v) x y e f h =
+    let first : Text a ≡ x = cc in
+    let last : Text b ≡ y = cc in
+    listed tokenizers.Exact (Text v) (Text v) (Some x) (Some y) refl
+    (subst (λ (w : Value). is_le (value_cmp w (Text v)) ≡ true) first (low_end (Text a) (Text b) (Text v) h))
+    (subst (λ (w : Value). is_le (value_cmp (Text v) w) ≡ true) last (high_end (Text a) (Text b) (Text v) h))
+exact_between (Text a) (Text b) (Int v) x y e f h = absurd (cc)
+exact_between (Text a) (Text b) (Truth v) x y e f h = absurd (cc)
+exact_between (Text a) (Text b) (Time v) x y e f h = absurd (cc)
+exact_between (Text a) (Int b) v x y e f h = absurd (cc)
+exact_between (Text a) (Truth b) v x y e f h = absurd (cc)
+exact_between (Text a) (Time b) v x y e f h = absurd (cc)
+exact_between (Int a) b v x y e f h = absurd (cc)
+exact_between (Truth a) b v x y e f h = absurd (cc)
+exact_between (Time a) b v x y e f h = absurd (cc)
+
+int_between : (a b v x y : Value) → filed_as tokenizers.Int a ≡ Some x → filed_as tokenizers.Int b ≡ Some y → is_between (a ∷ b ∷ []) v ≡ true → has_token_between tokenizers.Int (Some x) (Some y) (Val v) ≡ true
+int_between (Int a) (Int b) (Int v) x y e f h =
+    let first : Int a ≡ x = cc in
+    let last : Int b ≡ y = cc in
+    listed tokenizers.Int (Int v) (Int v) (Some x) (Some y) refl
+    (subst (λ (w : Value). is_le (value_cmp w (Int v)) ≡ true) first (low_end (Int a) (Int b) (Int v) h))
+    (subst (λ (w : Value). is_le (value_cmp (Int v) w) ≡ true) last (high_end (Int a) (Int b) (Int v) h))
+int_between (Int a) (Int b) (Text v) x y e f h = absurd (cc)
+int_between (Int a) (Int b) (Truth v) x y e f h = absurd (cc)
+int_between (Int a) (Int b) (Time v) x y e f h = absurd (cc)
+int_between (Int a) (Text b) v x y e f h = absurd (cc)
+int_between (Int a) (Truth b) v x y e f h = absurd (cc)
+int_between (Int a) (Time b) v x y e f h = absurd (cc)
+int_between (Text a) b v x y e f h = absurd (cc)
+int_between (Truth a) b v x y e f h = absurd (cc)
+int_between (Time a) b v x y e f h = absurd (cc)
+
+-- between two moments of these years
+in_years : (a b v : Instant) → IsInstant a → IsInstant b → a.secs ≤ℤ v.secs → v.secs ≤ℤ b.secs → InYears v.secs
+in_years a b v i j low high = (omega (arith, signed_arith, i.0, low), omega (arith, signed_arith, j.1, high))
+
+module _ (tokenizer : Tokenizer) (part : DatePart)
+    (time : (m : Instant) → filed_as tokenizer (Time m) ≡ Some (Time (truncated part m)))
+    (int : (n : ℤ) → filed_as tokenizer (Int n) ≡ None)
+    (text : (t : List ℕ) → filed_as tokenizer (Text t) ≡ None)
+    (truth : (b : Bool) → filed_as tokenizer (Truth b) ≡ None) where
+  moment_as : (m : Instant) (x : Value) → filed_as tokenizer (Time m) ≡ Some x → Time (truncated part m) ≡ x
+  moment_as m x e = let same = sym (time m) ∙ e in cc
+
+  -- moments from another on
+  date_above : (a v x : Value) → filed_as tokenizer a ≡ Some x → IsInYears a → is_le (value_cmp a v) ≡ true → has_token_between tokenizer (Some x) None (Val v) ≡ true
+  date_above (Time a) (Time v) x e i h =
+      listed tokenizer (Time v) (Time (truncated part v)) (Some x) None (time v)
+      (subst (λ (w : Value). is_le (value_cmp w (Time (truncated part v))) ≡ true) (moment_as a x e) (cut_in_order part a v (i.0, i.1) (secs_in_order a v h)))
+      refl
+  date_above (Time a) (Int v) x e i h = absurd (cc)
+  date_above (Time a) (Text v) x e i h = absurd (cc)
+  date_above (Time a) (Truth v) x e i h = absurd (cc)
+  date_above (Int a) v x e i h = let no = sym (int a) ∙ e in absurd (cc)
+  date_above (Text a) v x e i h = let no = sym (text a) ∙ e in absurd (cc)
+  date_above (Truth a) v x e i h = let no = sym (truth a) ∙ e in absurd (cc)
+
+  date_between : (a b v x y : Value) → filed_as tokenizer a ≡ Some x → filed_as tokenizer b ≡ Some y → IsInYears a → IsInYears b → is_between (a ∷ b ∷ []) v ≡ true → has_token_between tokenizer (Some x) (Some y) (Val v) ≡ true
+  date_between (Time a) (Time b) (Time v) x y e f i j h =
+      let first = secs_in_order a v (low_end (Time a) (Time b) (Time v) h) in
+      let last = secs_in_order v b (high_end (Time a) (Time b) (Time v) h) in
+      listed tokenizer (Time v) (Time (truncated part v)) (Some x) (Some y) (time v)
+      (subst (λ (w : Value). is_le (value_cmp w (Time (truncated part v))) ≡ true) (moment_as a x e) (cut_in_order part a v (i.0, i.1) first))
+      (subst (λ (w : Value). is_le (value_cmp (Time (truncated part v)) w) ≡ true) (moment_as b y f) (cut_in_order part v b (in_years a b v i j first last) last))
+  date_between (Time a) (Time b) (Int v) x y e f i j h = absurd (cc)
+  date_between (Time a) (Time b) (Text v) x y e f i j h = absurd (cc)
+  date_between (Time a) (Time b) (Truth v) x y e f i j h = absurd (cc)
+  date_between (Time a) (Int b) v x y e f i j h = let no = sym (int b) ∙ f in absurd (cc)
+  date_between (Time a) (Text b) v x y e f i j h = let no = sym (text b) ∙ f in absurd (cc)
+  date_between (Time a) (Truth b) v x y e f i j h = let no = sym (truth b) ∙ f in absurd (cc)
+  date_between (Int a) b v x y e f i j h = let no = sym (int a) ∙ e in absurd (cc)
+  date_between (Text a) b v x y e f i j h = let no = sym (text a) ∙ e in absurd (cc)
+  date_between (Truth a) b v x y e f i j h = let no = sym (truth a) ∙ e in absurd (cc)
+
+between_lists : (tokenizer : Tokenizer) (a b v x y : Value) → filed_as tokenizer a ≡ Some x → filed_as tokenizer b ≡ Some y → IsInYears a → IsInYears b → is_between (a ∷ b ∷ []) v ≡ true → has_token_between tokenizer (Some x) (Some y) (Val v) ≡ true
+between_lists tokenizers.Exact a b v x y e f i j h = exact_between a b v x y e f h
+between_lists tokenizers.Int a b v x y e f i j h = int_between a b v x y e f h
+between_lists tokenizers.Hour a b v x y e f i j h = date_between tokenizers.Hour parts.Hour (λ m. refl) (λ n. refl) (λ t. refl) (λ b. refl) a b v x y e f i j h
+between_lists tokenizers.Day a b v x y e f i j h = date_between tokenizers.Day parts.Day (λ m. refl) (λ n. refl) (λ t. refl) (λ b. refl) a b v x y e f i j h
+between_lists tokenizers.Month a b v x y e f i j h = date_between tokenizers.Month parts.Month (λ m. refl) (λ n. refl) (λ t. refl) (λ b. refl) a b v x y e f i j h
+between_lists tokenizers.Year a b v x y e f i j h = date_between tokenizers.Year parts.Year (λ m. refl) (λ n. refl) (λ t. refl) (λ b. refl) a b v x y e f i j h
+between_lists tokenizers.Hash a b v x y e f i j h = absurd (cc)
+between_lists tokenizers.Term a b v x y e f i j h = absurd (cc)
+between_lists tokenizers.Trigram a b v x y e f i j h = absurd (cc)
+between_lists tokenizers.Bool a b v x y e f i j h = absurd (cc)
+
+above_lists : (tokenizer : Tokenizer) (m : Instant) (v x : Value) → filed_as tokenizer (Time m) ≡ Some x → IsInstant m → is_le (value_cmp (Time m) v) ≡ true → has_token_between tokenizer (Some x) None (Val v) ≡ true
+above_lists tokenizers.Hour m v x e i h = date_above tokenizers.Hour parts.Hour (λ m. refl) (λ n. refl) (λ t. refl) (λ b. refl) (Time m) v x e i h
+above_lists tokenizers.Day m v x e i h = date_above tokenizers.Day parts.Day (λ m. refl) (λ n. refl) (λ t. refl) (λ b. refl) (Time m) v x e i h
+above_lists tokenizers.Month m v x e i h = date_above tokenizers.Month parts.Month (λ m. refl) (λ n. refl) (λ t. refl) (λ b. refl) (Time m) v x e i h
+above_lists tokenizers.Year m v x e i h = date_above tokenizers.Year parts.Year (λ m. refl) (λ n. refl) (λ t. refl) (λ b. refl) (Time m) v x e i h
+above_lists tokenizers.Exact m v x e i h = absurd (cc)
+above_lists tokenizers.Int m v x e i h = absurd (cc)
+above_lists tokenizers.Hash m v x e i h = absurd (cc)
+above_lists tokenizers.Term m v x e i h = absurd (cc)
+above_lists tokenizers.Trigram m v x e i h = absurd (cc)
+above_lists tokenizers.Bool m v x e i h = absurd (cc)
+
+-- what is at or below a number is one
+below_lists : (n : ℤ) (v : Value) → is_le (value_cmp v (Int n)) ≡ true → has_token_between tokenizers.Int None (Some (Int n)) (Val v) ≡ true
+below_lists n (Int v) h = listed tokenizers.Int (Int v) (Int v) None (Some (Int n)) refl refl h
+below_lists n (Text v) h = absurd (cc)
+below_lists n (Truth v) h = absurd (cc)
+below_lists n (Time v) h = absurd (cc)
+
+-- ---- roots
+
+module _ (graph : List Triple) (p : List ℕ) (vars : List Variable) (kind : Option Kind) where
+  pub between_root : (tokenizer : Tokenizer) (a b x y : Value) → filed_as tokenizer a ≡ Some x → filed_as tokenizer b ≡ Some y → IsInYears a → IsInYears b
+      → filter (λ n. holds_at graph vars n (funcs.Between (part.Pred p) kind (a ∷ b ∷ []))) (by_token_range graph p tokenizer (Some x) (Some y)) ≡ root_nodes graph vars (funcs.Between (part.Pred p) kind (a ∷ b ∷ []))
+  between_root tokenizer a b x y e f i j =
+      same_of_listed graph p (is_between (a ∷ b ∷ [])) (has_token_between tokenizer (Some x) (Some y)) (λ v h. between_lists tokenizer a b v x y e f i j h)
+
+  pub below_root : (op : CmpOp) → ((o : Ordering) → stands op o ≡ true → is_le o ≡ true) → (n : ℤ)
+      → filter (λ m. holds_at graph vars m (funcs.Cmp op (part.Pred p) kind (Int n ∷ []))) (by_token_range graph p tokenizers.Int None (Some (Int n))) ≡ root_nodes graph vars (funcs.Cmp op (part.Pred p) kind (Int n ∷ []))
+  below_root op below n =
+      same_of_listed graph p (stands_to_any op (Int n ∷ [])) (has_token_between tokenizers.Int None (Some (Int n)))
+      (λ v h. below_lists n v (below (value_cmp v (Int n)) (sym (or_false (stands op (value_cmp v (Int n)))) ∙ h)))
+
+  pub above_root : (op : CmpOp) → ((o : Ordering) → stands op o ≡ true → is_ge o ≡ true) → (tokenizer : Tokenizer) (m : Instant) (x : Value) → filed_as tokenizer (Time m) ≡ Some x → IsInstant m
+      → filter (λ n. holds_at graph vars n (funcs.Cmp op (part.Pred p) kind (Time m ∷ []))) (by_token_range graph p tokenizer (Some x) None) ≡ root_nodes graph vars (funcs.Cmp op (part.Pred p) kind (Time m ∷ []))
+  above_root op above tokenizer m x e i =
+      same_of_listed graph p (stands_to_any op (Time m ∷ [])) (has_token_between tokenizer (Some x) None)
+      (λ v h. above_lists tokenizer m v x e i (from_above v (Time m) (above (value_cmp v (Time m)) (sym (or_false (stands op (value_cmp v (Time m)))) ∙ h))))
