@@ -36,7 +36,7 @@ use Rattle.dg_check.specs.Vars.{value_at, named_nodes, nodes_of}
 use Rattle.dg_funcs.specs.Truth.{value_in, values_at, texts_at, nodes_along, count_along, compared, stands, stands_to_any, is_between, finds, holds_at}
 use Rattle.dg_funcs.specs.Roots.{nodes_of_part, candidates}
 use Rattle.dg_funcs.specs.Meaning.{kind_of, stands_to_read, text_stands_to_any, text_is_between, text_named_nodes, text_compared, found_by, text_holds_at, text_nodes_of_part, text_candidates}
-use Rattle.dg_funcs.specs.Laws.{is_of_any_kind, AreOfKind, FuncsMeanTheirTexts, RootsMeanTheirTexts}
+use Rattle.dg_funcs.specs.Laws.{is_of_known_kind, AreOfKind, FuncsMeanTheirTexts, RootsMeanTheirTexts}
 use Rattle.dg_funcs.proofs.PassLaws.{filter_same}
 use Rattle.dg_funcs.proofs.TestLaws.{any_by}
 use Rattle.dg_funcs.proofs.FoundLaws.{built_found}
@@ -44,7 +44,7 @@ use Rattle.dg_funcs.proofs.FoundLaws.{built_found}
 -- ---- literals
 
 -- a literal reads alike as a declared kind and as the kind of a value of it
-read_alike : (kind : Option Kind) (v : Value) (literal : List ℕ) → is_of_any_kind kind v ≡ true → value_of_text (kind_of v) literal ≡ literal_read kind literal
+read_alike : (kind : Option Kind) (v : Value) (literal : List ℕ) → is_of_known_kind kind v ≡ true → value_of_text (kind_of v) literal ≡ literal_read kind literal
 read_alike None v literal e = absurd (false≢true e)
 read_alike (Some kinds.Default) (Text t) literal e = refl
 read_alike (Some kinds.Text) (Text t) literal e = refl
@@ -62,7 +62,7 @@ stands_read op v f (l ∷ ls) = by (f l) (stands_read op v f ls)
     by None e = e
     by (Some given) e = ap (λ b. stands op (value_cmp v given) || b) e
 
-stands_alike : (op : CmpOp) (kind : Option Kind) (literals : List (List ℕ)) (v : Value) → is_of_any_kind kind v ≡ true → text_stands_to_any op literals v ≡ stands_to_any op (literals_read kind literals) v
+stands_alike : (op : CmpOp) (kind : Option Kind) (literals : List (List ℕ)) (v : Value) → is_of_known_kind kind v ≡ true → text_stands_to_any op literals v ≡ stands_to_any op (literals_read kind literals) v
 stands_alike op kind literals v e = (λ i. list_any (λ l. stands_to_read op v (read_alike kind v l e i)) literals) ∙ stands_read op v (literal_read kind) literals
 
 and_false : (a : Bool) → (a && false) ≡ false
@@ -70,7 +70,7 @@ and_false true = refl
 and_false false = refl
 
 -- both ends have to read
-between_alike : (kind : Option Kind) (low high : List ℕ) (v : Value) → is_of_any_kind kind v ≡ true → text_is_between low high v ≡ is_between (literals_read kind (low ∷ high ∷ [])) v
+between_alike : (kind : Option Kind) (low high : List ℕ) (v : Value) → is_of_known_kind kind v ≡ true → text_is_between low high v ≡ is_between (literals_read kind (low ∷ high ∷ [])) v
 between_alike kind low high v e = (λ i. stands_to_read ops.Ge v (read_alike kind v low e i) && stands_to_read ops.Le v (read_alike kind v high e i)) ∙ by (literal_read kind low) (literal_read kind high)
   where
     by : (a b : Option Value) → (stands_to_read ops.Ge v a && stands_to_read ops.Le v b) ≡ is_between (cons_option a (cons_option b [])) v
@@ -91,7 +91,7 @@ any_where P f g e (x ∷ xs) a =
 
 -- each of these values is of a kind
 abbrev AreOf : Option Kind → List Value → Type 0
-AreOf kind = AllByRecursion (λ v. is_of_any_kind kind v ≡ true)
+AreOf kind = AllByRecursion (λ v. is_of_known_kind kind v ≡ true)
 
 -- the kind of a definition
 abbrev defined_kind : Option PredDef → Option Kind
@@ -115,7 +115,7 @@ values_fit schema p node (t ∷ graph) a = by (is_of_subject p node t) refl (val
     by false e rest = rest
     by true e rest = object_fits (definition_of schema p) t (values_at graph p node) (subst (λ (q : List ℕ). fits_by (definition_of schema q) t ≡ true) (same_subject p node t e).0 a.0) rest
 
-value_fits : (kind : Option Kind) (o : Option Value) → IfSome o (λ v. is_of_any_kind kind v ≡ true) → AreOf kind (option_to_list o)
+value_fits : (kind : Option Kind) (o : Option Value) → IfSome o (λ v. is_of_known_kind kind v ≡ true) → AreOf kind (option_to_list o)
 value_fits kind None h = tt
 value_fits kind (Some v) h = (h, tt)
 
@@ -168,9 +168,9 @@ module _ (ds : List Definition) (graph : List Triple) (vars : List Variable) whe
       compared_fit (part.Val x) = value_fits (kind_of_part schema ds (part.Val x)) (value_at vars (place_of ds x) node) (of_kind x node)
 
       -- two tests that agree on values of its kind agree on what is compared
-      tests_alike : (o : QOf) (f g : Value → Bool) → ((v : Value) → is_of_any_kind (kind_of_part schema ds o) v ≡ true → f v ≡ g v) → list_any f (text_compared graph (names_for false ds) vars o node) ≡ list_any g (compared graph vars (of_part ds o) node)
+      tests_alike : (o : QOf) (f g : Value → Bool) → ((v : Value) → is_of_known_kind (kind_of_part schema ds o) v ≡ true → f v ≡ g v) → list_any f (text_compared graph (names_for false ds) vars o node) ≡ list_any g (compared graph vars (of_part ds o) node)
       tests_alike o f g e =
-          any_where (λ v. is_of_any_kind (kind_of_part schema ds o) v ≡ true) f g e (text_compared graph (names_for false ds) vars o node) (compared_fit o)
+          any_where (λ v. is_of_known_kind (kind_of_part schema ds o) v ≡ true) f g e (text_compared graph (names_for false ds) vars o node) (compared_fit o)
           ∙ ap (list_any g) (compared_alike o node)
 
       pub func_means : (q : QFunc) (f : Func) → IsReadFunc schema ds q f → text_holds_at graph (names_for false ds) vars node q ≡ holds_at graph vars node f

@@ -21,13 +21,13 @@ use Rattle.dg_funcs.specs.Roots.{root_nodes}
 use Rattle.dg_funcs.specs.Meaning.{text_holds_at, text_passes, text_root_nodes}
 
 -- a value is of this kind; where there is no kind, none is
-abbrev pub is_of_any_kind : Option Kind → Value → Bool
-is_of_any_kind None v = false
-is_of_any_kind (Some kind) v = is_of_kind kind (postings.Val v)
+abbrev pub is_of_known_kind : Option Kind → Value → Bool
+is_of_known_kind None v = false
+is_of_known_kind (Some kind) v = is_of_kind kind (postings.Val v)
 
 -- each value that a variable has is of the variable's kind
 abbrev pub AreOfKind : List Definition → List Variable → Type 0
-AreOfKind ds vars = (x : List ℕ) (node : ℕ) → IfSome (value_at vars (place_of ds x) node) (λ v. is_of_any_kind (kind_named ds x) v ≡ true)
+AreOfKind ds vars = (x : List ℕ) (node : ℕ) → IfSome (value_at vars (place_of ds x) node) (λ v. is_of_known_kind (kind_named ds x) v ≡ true)
 
 -- a function holds by the plan where it holds by the text
 abbrev pub FuncsMeanTheirTexts : Type 0
