@@ -116,7 +116,7 @@ fn push_blocks<S: Snapshot, L: Ledger>(
     Ok(())
 }
 
-// The same text, by the plan.
+// The text of an answer, by what the plan keeps of the blocks.
 fn planned_answer<S: Snapshot, L: Ledger>(
     alloc: Global,
     snap: &S,
