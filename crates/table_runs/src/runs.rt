@@ -62,7 +62,8 @@ pub fn run_from(alloc: Global, script: &mut Script, row: &str, said: &[&str]) ->
     let bytes = Vec::from_slice(alloc, script.bytes())?;
     let mut source = MemSource::new(bytes, Vec::new(alloc), MOST_BYTES);
     let mut sink = Replies::new(alloc);
-    let status = run_script_from(alloc, GROUPS, next, &mut source, &mut sink);
+    let mut maker = RegexPatterns::new(alloc);
+    let status = run_script_from(alloc, GROUPS, next, &mut source, &mut sink, &mut maker);
     told(alloc, script, row, status, sink.pieces())
 }
 
