@@ -14,7 +14,7 @@ use Rattle.dg_zero.specs.States.{Zero}
 use Rattle.dg_zero.specs.States as states
 use Rattle.dg_zero.proofs.LawsOfHistories.{kept_from, anyone}
 use Rattle.dg_edges.proofs.CommitsSince.{reached, commits_do_as_asked}
-use Rattle.dg_node.specs.Kept.{Held}
+use Rattle.dg_node.specs.Held.{Held}
 use Rattle.dg_node.specs.Machine.{Machine}
 use Rattle.dg_node.specs.State.{machine_of}
 use Rattle.dg_node.proofs.Standing.{StandFor, is_machine}

@@ -21,7 +21,7 @@ use Rattle.dg_zero.specs.Worlds.{World, world, world_at, schema}
 use Rattle.dg_zero.proofs.AlterKeeps.{none_first_held}
 use Rattle.dg_zero.proofs.LawsOfHistories.{line_stays_below, present_is_last}
 use Rattle.dg_zero.proofs.Refusals.{not_held}
-use Rattle.dg_node.specs.declared.engine.Opened.{Opened}
+use Rattle.dg_node.specs.Held.{Opened}
 use Rattle.dg_node.specs.Alters.{is_other_kind, has_data, first_with_data, present_schema, present_graph, least_start}
 use Rattle.dg_node.specs.Kept.{IsKept}
 use Rattle.dg_node.specs.Machine.{Machine, Session}
@@ -100,7 +100,7 @@ not_among start low (x ∷ xs) le a =
     let other : (x == start) ≡ false = grind (arith, common_steps, le, a.0) in
     rw other (not_among start x xs (omega (arith, le, a.0)) a.1)
 
-first_is : (start x low : ℕ) (xs : List ℕ) → start ≤ x → oracle.Ascends low (x ∷ xs) → oracle.is_active (x ∷ xs) start ≡ true → x ≡ start
+pub first_is : (start x low : ℕ) (xs : List ℕ) → start ≤ x → oracle.Ascends low (x ∷ xs) → oracle.is_active (x ∷ xs) start ≡ true → x ≡ start
 first_is start x low xs le a found = by (x == start) refl found
   where
     by : (v : Bool) → (x == start) ≡ v → (v || oracle.is_active xs start) ≡ true → x ≡ start

@@ -1,6 +1,6 @@
 -- Events that end transactions, and what the verdict on a transaction says to the machine.
 use Rattle.std.proofs.Common.{◌≡◌, ℕ, ◌<◌, ◌^◌, List, [], ◌∷◌, ◌++◌, Option, Some, None, refl, ap, subst, sym, ◌∙◌}
-use Rattle.std.specs.Prelude.{slice_get, option_map}
+use Rattle.std.specs.Prelude.{map, slice_get, option_map}
 use Rattle.std.specs.Option.{option_map_or}
 use Rattle.dg_graph.specs.Graphs.{after_changes}
 use Rattle.dg_keys.specs.declared.conflict.ConflictKey.{ConflictKey}
@@ -21,7 +21,7 @@ use Rattle.dg_zero.specs.Verdicts as zeros
 use Rattle.dg_zero.specs.Worlds.{world, schema, schema_at, graph_at}
 use Rattle.dg_zero.proofs.Refusals.{verdict_where_idle}
 use Rattle.dg_edges.proofs.CommitsSince.{commits_do_as_asked}
-use Rattle.dg_node.specs.declared.engine.Opened.{Opened}
+use Rattle.dg_node.specs.Held.{Opened}
 use Rattle.dg_node.specs.Schemas.{Alter}
 use Rattle.dg_node.specs.Schemas as machines
 use Rattle.dg_node.specs.Graphs.{committed_at}
@@ -63,7 +63,7 @@ commit_ends offer ts = record { still = record { schema_stays = λ w. refl; plac
 
 -- ---- refusals
 
-refusal_none : (keys : List ConflictKey) (v : Verdict) → conflict keys v ≡ None → refusal_by keys v ≡ None
+pub refusal_none : (keys : List ConflictKey) (v : Verdict) → conflict keys v ≡ None → refusal_by keys v ≡ None
 refusal_none keys verdicts.Clear e = refl
 refusal_none keys (verdicts.Conflict at ts) e = by (slice_get keys at) e
   where
@@ -81,7 +81,7 @@ refusal_some keys (verdicts.Conflict at t) key ts e = by (slice_get keys at) e
         let same : t ≡ ts = cc in
         ap (λ (n : ℕ). Some (refusals.Conflict n (conflict_text k))) same
 
-no_moving : (keys : List ConflictKey) (v : Verdict) (pred : List ℕ) → conflict keys v ≡ Some (reasons.Moving pred) → ⊥
+pub no_moving : (keys : List ConflictKey) (v : Verdict) (pred : List ℕ) → conflict keys v ≡ Some (reasons.Moving pred) → ⊥
 no_moving keys verdicts.Clear pred e = absurd (cc)
 no_moving keys (verdicts.Conflict at ts) pred e = by (slice_get keys at) e
   where
@@ -134,7 +134,7 @@ module _ (z : Zero) (os before after : List Opened) (o : Opened) (k : IsKept z o
         clash_is ∙ (refusal_some offer.keys (verdict conflict_cmp (commits z.history) offer.start offer.keys) key ts (sym idle_verdict ∙ h) ∙ ap (λ (l : List ℕ). Some (refusals.Conflict ts l)) (sym t))
 
     -- where it is clear, its parts do what its changes do
-    pub committed_as : zeros.verdict z.history offer.start offer.preds offer.keys ≡ None → next z.history < 2 ^ 62 → IsCommittedAs z os m s 0 o.txn.start o.txn.own offer
+    pub committed_as : zeros.verdict z.history offer.start offer.preds offer.keys ≡ None → next z.history < 2 ^ 62 → IsCommittedAs z (map session_from os) m s 0 o.txn.start o.txn.own offer
     committed_as h lt = record {
       legal = k.legal;
       start_is = is.start_is;

@@ -7,7 +7,7 @@ use Rattle.dg_wire.specs.declared.reply.Reply.TheVariants as replies
 use Rattle.dg_wire.specs.declared.request.Request.{Request}
 use Rattle.dg_wire.specs.declared.request.Request.TheVariants as requests
 use Rattle.dg_node.specs.Bodies.{Asks}
-use Rattle.dg_node.specs.Kept.{Held}
+use Rattle.dg_node.specs.Held.{Held}
 use Rattle.dg_node.specs.Machine.{Machine}
 use Rattle.dg_node.specs.Queries.{queried, Queries}
 use Rattle.dg_node.specs.Transactions.{discarded, HasChanges}

@@ -2,7 +2,7 @@
 use Rattle.std.proofs.Common.{◌≡◌, refl, subst, sym}
 use Rattle.std.specs.Prelude.{map}
 use Rattle.dg_zero.specs.Legal.{IsLegal}
-use Rattle.dg_node.specs.Kept.{Held}
+use Rattle.dg_node.specs.Held.{Held}
 use Rattle.dg_node.specs.Machine.{Machine}
 use Rattle.dg_node.specs.State.{session_from, machine_of, HistoriesAgree, Leads, Stays, StandsFor}
 use Rattle.dg_node.proofs.Standing.{Stands, is_machine}

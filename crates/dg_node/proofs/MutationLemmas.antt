@@ -27,7 +27,7 @@ use Rattle.dg_zero.specs.declared.fault.ZeroFault.TheVariants as faults
 use Rattle.dg_zero.specs.Legal.{IsLegal}
 use Rattle.dg_zero.specs.States.{Zero, and_then}
 use Rattle.dg_txn.specs.Own.{graph}
-use Rattle.dg_node.specs.declared.engine.Opened.{Opened}
+use Rattle.dg_node.specs.Held.{Opened}
 use Rattle.dg_node.specs.Graphs as machines
 use Rattle.dg_node.specs.Machine.{Machine, Session, session_of, with_changes, leased_upto}
 use Rattle.dg_node.specs.Kept.{IsKept}

@@ -9,7 +9,7 @@ use Rattle.dg_tree.specs.declared.tree.Tree.{Tree}
 use Rattle.dg_wire.specs.declared.reply.Reply.{Reply}
 use Rattle.dg_zero.specs.States.{Zero}
 use Rattle.dg_txn.specs.Own.{graph}
-use Rattle.dg_node.specs.declared.engine.Opened.{Opened}
+use Rattle.dg_node.specs.Held.{Opened}
 use Rattle.dg_node.specs.Answers.{shown, block_of}
 use Rattle.dg_node.specs.Graphs.{graph_at}
 use Rattle.dg_node.specs.Kept.{Held, IsKept}

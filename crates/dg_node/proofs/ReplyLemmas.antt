@@ -10,7 +10,7 @@ use Rattle.dg_wire.specs.declared.refusal.Refusal.TheVariants as refusals
 use Rattle.dg_wire.specs.declared.reply.Reply.{Reply}
 use Rattle.dg_wire.specs.declared.reply.Reply.TheVariants as replies
 use Rattle.dg_zero.specs.States.{Zero}
-use Rattle.dg_node.specs.declared.engine.Opened.{Opened}
+use Rattle.dg_node.specs.Held.{Opened}
 use Rattle.dg_node.specs.Machine.{Machine, Session, session_of, is_open, with_session, without_session, drawn}
 use Rattle.dg_node.specs.Alters.{least_start, first_with_data, present_schema, present_graph, declared, declared_unless, altered}
 use Rattle.dg_node.specs.Transactions.{begun, committed, committed_with, committed_unless, clash_of, with_commit, discarded}

@@ -12,7 +12,7 @@ use Rattle.dg_schema.specs.Whole.{schema}
 use Rattle.dg_wire.specs.declared.reply.Reply.{Reply}
 use Rattle.dg_node.specs.Alters.{alters, altered_by}
 use Rattle.dg_node.specs.Bodies.{is_predicate, is_reserved}
-use Rattle.dg_node.specs.Kept.{Held}
+use Rattle.dg_node.specs.Held.{Held}
 use Rattle.dg_node.specs.Machine.{Machine}
 use Rattle.dg_node.specs.State.{Leads}
 use Rattle.dg_node.specs.Texts.{by_text}

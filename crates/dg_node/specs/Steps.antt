@@ -6,7 +6,7 @@ use Rattle.dg_wire.specs.declared.reply.Reply.{Reply}
 use Rattle.dg_wire.specs.declared.reply.Reply.TheVariants as replies
 use Rattle.dg_wire.specs.declared.request.Request.{Request}
 use Rattle.dg_wire.specs.declared.request.Request.TheVariants as requests
-use Rattle.dg_node.specs.Machine.{Machine, empty, drawn}
+use Rattle.dg_node.specs.Machine.{Machine, empty, drawn, leased_upto}
 use Rattle.dg_node.specs.Replying.{IsUnbuilt}
 use Rattle.dg_node.specs.Alters.{alters}
 use Rattle.dg_node.specs.Transactions.{begun, committed, discarded, HasChanges}
@@ -32,9 +32,22 @@ TakesMemory old (requests.Query sid body) = ⊤
 TakesMemory old (requests.Commit sid) = HasChanges old sid
 TakesMemory old request = ⊥
 
--- what a request leaves where memory is wanting: a begin may have drawn one timestamp, which isn't given back
+-- The next node is raised, as it is where one of these outcomes comes about.
+pub record Raises (outcome : Machine → Reply → Machine → Type 0) (old new : Machine) : Type 0 where
+  pub reply : Reply
+  pub after : Machine
+  pub comes : outcome old reply after
+  pub raised : new ≡ leased_upto old after.next_uid
+
+-- nothing is changed, or the next node is raised
+abbrev pub MayRaise : (Machine → Reply → Machine → Type 0) → Machine → Machine → Type 0
+MayRaise outcome old new = (new ≡ old) ⊎ Raises outcome old new
+
+-- what a request leaves where memory is wanting: a begin may have drawn one timestamp, which isn't given back, and a mutation may
+-- have raised the next node, as its lease says
 abbrev pub Spares : Request → Machine → Machine → Type 0
 Spares (requests.Begin sid) old new = (new ≡ old) ⊎ (new ≡ drawn old (old.next + 1))
+Spares (requests.Mutate sid body) old new = MayRaise (λ machine. Mutates machine sid body) old new
 Spares request old new = new ≡ old
 
 -- memory is wanting

@@ -1,17 +1,21 @@
 // What `query` does.
-ghost use Rattle.std.specs.Prelude.{◌≡◌, ◌<◌, IfOk};
+ghost use Rattle.std.specs.Prelude.{◌≡◌, ◌<◌, ℕ, true, IfOk};
 ghost use Rattle.dg_schema.specs.Definitions.{definition_of};
 ghost use Rattle.dg_graph.specs.Graphs.{objects};
 ghost use Rattle.dg_tree.specs.Texts.{answer_text};
 ghost use Rattle.dg_txn.specs.Own.{graph};
 ghost use Rattle.dg_node.specs.Answers.{shown, block_of};
 ghost use Rattle.dg_node.specs.Machine.{Machine};
-ghost use Rattle.dg_node.specs.Queries.{answered};
+ghost use Rattle.dg_node.specs.Bodies.{is_predicate};
+ghost use Rattle.dg_node.specs.Queries.{Queries, queried, answered};
+ghost use Rattle.dg_node.specs.Sessions.{IsSession, Sees};
+ghost use Rattle.dg_zero.specs.Legal.{IsLegal};
+ghost use Rattle.dg_zero.specs.States.{Zero};
 
 use crate::answers::block_of;
 use crate::bodies::{asked_by, text_of};
-use crate::engine::{Engine, no_session};
 use crate::step::unbuilt;
+use crate::transactions::no_session;
 use dg_graph::Snapshot;
 use dg_tree::{Field, TreeFault, answer_text};
 use dg_txn::Txn;
@@ -21,33 +25,34 @@ use std::alloc::Global;
 use std::marker::Brand;
 use std::sync::ledger::{Blank, Ledger};
 
-impl Engine {
-    ghost use Rattle.std.specs.Prelude.{◌≡◌, true, IfOk};
-    ghost use Rattle.dg_node.specs.Bodies.{is_predicate};
-    ghost use Rattle.dg_node.specs.Queries.{Queries, queried};
-    ghost use Rattle.dg_node.specs.State.{Leads};
-
-    /// Answers for one predicate of one node, where the form is built.
-    pub fn try_query(&self, alloc: Global, sid: u32, body: &[u8]) -> Mem<Reply>
-        ensures { IfOk result (λ reply. Leads self.now (λ m n. Queries m sid body.now reply n) self.now) }
-    {
-        match asked_by(body) {
-            Some((uid, name)) => self.query(alloc, sid, uid, name),
-            None => Ok(unbuilt()),
-        }
+/// Answers for one predicate of one node as a session sees it, where the form is built. `NoSession` comes where it has no
+/// transaction, and `AnswerTooLarge` where the text is.
+pub fn query(alloc: Global, session: &Option<Txn>, sid: u32, body: &[u8]) -> Mem<Reply>
+    ensures { (author : ℕ) (zero : Zero) → IsLegal zero.groups zero.history → IsSession zero author session.now → IfOk result (λ reply. Sees sid session.now (λ m n. Queries m sid body.now reply n) zero) }
+{
+    match asked_by(body) {
+        Some((uid, name)) => query_at(alloc, session, sid, uid, name),
+        None => Ok(unbuilt()),
     }
+}
 
-    fn query(&self, alloc: Global, sid: u32, uid: u64, name: &[u8]) -> Mem<Reply>
-        requires name { is_predicate name.now ≡ true }
-        ensures { IfOk result (λ reply. Leads self.now (λ m n. queried m sid uid name.now ≡ (reply, n)) self.now) }
-    {
-        let Some(place) = self.place_of(sid) else {
-            return Ok(no_session(sid));
-        };
-        let p = text_of(alloc, name)?;
-        let block = block_in(alloc, &self.sessions[place].txn, p, uid)?;
-        answer(alloc, sid, block.as_slice())
-    }
+// Answers for a predicate of a node.
+fn query_at(
+    alloc: Global,
+    session: &Option<Txn>,
+    sid: u32,
+    uid: u64,
+    name: &[u8],
+) -> Mem<Reply>
+    requires name { is_predicate name.now ≡ true }
+    ensures { (author : ℕ) (zero : Zero) → IsLegal zero.groups zero.history → IsSession zero author session.now → IfOk result (λ reply. Sees sid session.now (λ m n. queried m sid uid name.now ≡ (reply, n)) zero) }
+{
+    let Some(txn) = session else {
+        return Ok(no_session(sid));
+    };
+    let p = text_of(alloc, name)?;
+    let block = block_in(alloc, txn, p, uid)?;
+    answer(alloc, sid, block.as_slice())
 }
 
 // The text of an answer, unless it is too large.
