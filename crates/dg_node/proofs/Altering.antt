@@ -1,7 +1,7 @@
 -- What an alter makes of the history and of the machine, whose sessions have the active starts.
 use Rattle.std.proofs.Common.{◌≡◌, ℕ, ◌+◌, ◌-◌, ◌<◌, ◌≤◌, ◌^◌, Bool, true, false, List, [], ◌∷◌, ◌++◌, Option, Some, None, refl, ap, subst, sym, ◌∙◌, arith}
 use Rattle.std.specs.Prelude.{◌==◌, ◌||◌, fold, map, min}
-use Rattle.std.specs.List.{AllByRecursion, list_any}
+use Rattle.std.specs.List.{AllByRecursion}
 use Rattle.std.proofs.lemmas.Grind.{common_steps}
 use Rattle.dg_schema.specs.declared.definition.PredDef.{PredDef}
 use Rattle.dg_keys.specs.declared.record.Part.{Part}
@@ -16,7 +16,7 @@ use Rattle.dg_zero.specs.Places.{tablets}
 use Rattle.dg_zero.specs.States.{Zero, and_then, alter_of, first_held, IsLeastStart}
 use Rattle.dg_zero.specs.Worlds.{World, world, world_at, schema}
 use Rattle.dg_zero.proofs.LawsOfHistories.{line_stays_below, present_is_last}
-use Rattle.dg_node.specs.Alters.{has_directive, least_start, first_with_data, present_schema, present_graph, altered, declared}
+use Rattle.dg_node.specs.Alters.{least_start, first_with_data, present_schema, present_graph, altered, declared}
 use Rattle.dg_node.specs.Graphs.{committed_at}
 use Rattle.dg_node.specs.Machine.{Machine, Session}
 use Rattle.dg_node.specs.Owning.{AreAtRest}
@@ -74,7 +74,7 @@ least_open (s ∷ ss) z start l e is =
 
 -- ---- each answer of the cluster
 
-module _ (author : ℕ) (z : Zero) (l : IsLegal z.groups z.history) (newer : List PredDef) (plain : list_any has_directive newer ≡ false) where
+module _ (author : ℕ) (z : Zero) (l : IsLegal z.groups z.history) (newer : List PredDef) where
   -- the machine's present is the history's
   same_data : (ss : List Session) → first_with_data (present_schema (machine_beside z ss)) (present_graph (machine_beside z ss)) newer ≡ first_with_data (schema z.history) (world z.history).graph newer
   same_data ss =
@@ -85,10 +85,10 @@ module _ (author : ℕ) (z : Zero) (l : IsLegal z.groups z.history) (newer : Lis
       λ i. first_with_data (schema_is i) (graph_is i) newer
 
   pub pending_alters : (start : ℕ) (w : Zero) → w ≡ and_then z author Look → IsLeastStart z.history start → Alters author (λ m n. ◌≡◌ {A = Pair} (altered m newer) (replies.Refused (refusals.Pending start), n)) z w
-  pending_alters start w then is = alters_look author _ z w l then (λ rest ss e. alter_pending (machine_beside z ss) newer start plain (least_open ss z start l e is))
+  pending_alters start w then is = alters_look author _ z w l then (λ rest ss e. alter_pending (machine_beside z ss) newer start (least_open ss z start l e is))
 
   pub data_alters : (pred : List ℕ) (w : Zero) → w ≡ and_then z author Look → active z.history ≡ [] → first_with_data (schema z.history) (world z.history).graph newer ≡ Some pred → Alters author (λ m n. ◌≡◌ {A = Pair} (altered m newer) (replies.Refused (refusals.HasData pred), n)) z w
-  data_alters pred w then none is = alters_look author _ z w l then (λ rest ss e. alter_has_data (machine_beside z ss) newer pred plain (none_least ss z e none) (same_data ss ∙ is))
+  data_alters pred w then none is = alters_look author _ z w l then (λ rest ss e. alter_has_data (machine_beside z ss) newer pred (none_least ss z e none) (same_data ss ∙ is))
 
   pub moving_alters : (pred : List ℕ) (w : Zero) → w ≡ and_then z author Look → first_held (tablets z.history) newer ≡ Some pred → Alters author (λ m n. ◌≡◌ {A = Pair} (altered m newer) (replies.Refused (refusals.Moving pred), n)) z w
   moving_alters pred w then held = alters_look author _ z w l then (λ rest ss e. absurd (let no : first_held (tablets z.history) newer ≡ None = held_nowhere (tablets z.history) newer rest in cc))
@@ -96,7 +96,7 @@ module _ (author : ℕ) (z : Zero) (l : IsLegal z.groups z.history) (newer : Lis
   pub spent_alters : (spent : ℕ) (w : Zero) → w ≡ and_then z author Look → active z.history ≡ [] → first_with_data (schema z.history) (world z.history).graph newer ≡ None → spent ≡ next z.history → 2 ^ 62 - 1 ≤ next z.history → Alters author (λ m n. ◌≡◌ {A = Pair} (altered m newer) (replies.Refused (refusals.TimestampsSpent spent), n)) z w
   spent_alters spent w then none free is le = alters_look author _ z w l then (λ rest ss e.
       let m = machine_beside z ss in
-      altered_is m newer plain (none_least ss z e none) (same_data ss ∙ free) ∙ alter_spent m newer spent le is)
+      altered_is m newer (none_least ss z e none) (same_data ss ∙ free) ∙ alter_spent m newer spent le is)
 
   pub done_alters : (start ts : ℕ) (parts : List Part) (w : Zero) → w ≡ and_then z author (alter_of z newer parts) → active z.history ≡ [] → first_with_data (schema z.history) (world z.history).graph newer ≡ None → start ≡ next z.history → ts ≡ next z.history + 1 → next z.history + 1 < 2 ^ 62 → Alters author (λ m n. ◌≡◌ {A = Pair} (altered m newer) (replies.Alter start ts, n)) z w
   done_alters start ts parts w then none free start_is ts_is lt = record {
@@ -104,7 +104,7 @@ module _ (author : ℕ) (z : Zero) (l : IsLegal z.groups z.history) (newer : Lis
     starts = active_same z w author (alter_of z newer parts) then;
     machine = λ rest ss e.
         let m = machine_beside z ss in
-        altered_is m newer plain (none_least ss z e none) (same_data ss ∙ free)
+        altered_is m newer (none_least ss z e none) (same_data ss ∙ free)
         ∙ (declared_is m newer start ts lt start_is ts_is
         ∙ ap (λ (n : Machine). (replies.Alter start ts, n))
         (is_beside (and_then z author (alter_of z newer parts)) ss _ (stand_alter z ss m (stands_beside z ss l) author newer parts) ∙ ap (λ (y : Zero). machine_beside y ss) (sym then)));

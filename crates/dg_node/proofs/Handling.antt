@@ -17,7 +17,8 @@ use Rattle.dg_node.specs.Transactions.{discarded}
 use Rattle.dg_node.proofs.Between.{both_others}
 use Rattle.dg_node.proofs.CommitLemmas.{end_quiet}
 use Rattle.dg_node.proofs.Opens.{open_met}
-use Rattle.dg_node.proofs.Serving.{Finds, meets_here, meets_by, serves_nothing, ended_serves}
+use Rattle.dg_node.proofs.Alone.{meets_here}
+use Rattle.dg_node.proofs.Serving.{Finds, meets_by, serves_nothing, ended_serves}
 
 abbrev Pair : Type 0
 Pair = Reply × Machine

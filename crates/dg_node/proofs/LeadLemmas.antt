@@ -6,14 +6,11 @@ use Rattle.dg_wire.specs.declared.reply.Reply.{Reply}
 use Rattle.dg_wire.specs.declared.reply.Reply.TheVariants as replies
 use Rattle.dg_wire.specs.declared.request.Request.{Request}
 use Rattle.dg_wire.specs.declared.request.Request.TheVariants as requests
-use Rattle.dg_node.specs.Bodies.{Asks}
 use Rattle.dg_node.specs.Held.{Held}
 use Rattle.dg_node.specs.Machine.{Machine}
-use Rattle.dg_node.specs.Queries.{queried, Queries}
+use Rattle.dg_node.specs.Queries.{Queries}
 use Rattle.dg_node.specs.Transactions.{discarded, HasChanges}
 use Rattle.dg_node.specs.State.{machine_of, Leads, Stays, MayWant}
-use Rattle.dg_node.proofs.Standing.{Stands}
-use Rattle.dg_node.proofs.Leading.{Legal, to_all, from_to}
 use Rattle.dg_node.specs.Steps.{Outcome, Spares, Step, TakesMemory}
 
 -- what follows from a step follows from where it leads
@@ -26,6 +23,7 @@ leads_nowhere before after step f stays = record { leads = subst (λ (n : Machin
 
 spares_all : (r : Request) (m : Machine) → Spares r m m
 spares_all (requests.Begin sid) m = inl refl
+spares_all (requests.Mutate sid body) m = inl refl
 spares_all r m = refl
 
 pub step_made : (before after : Held) (r : Request) (p : Reply) → Leads before (λ m n. Outcome m r p n) after → Leads before (λ m n. Step m r p n) after
@@ -41,24 +39,13 @@ pub err_spared : {A E : Type 0} (r : Result A E) (before after : Held) (request 
 err_spared (Ok x) before after request stays = tt
 err_spared (Err x) before after request stays = leads_nowhere before after (λ m n. Spares request m n) (spares_all request) stays
 
-pub begin_spared : {A E : Type 0} (r : Result A E) (before after : Held) (request : Request) (sid : ℕ) → request ≡ requests.Begin sid → OnErr r (Leads before (λ m n. Spares (requests.Begin sid) m n) after) → OnErr r (Leads before (λ m n. Spares request m n) after)
-begin_spared r before after request sid e leads = subst (λ (q : Request). OnErr r (Leads before (λ m n. Spares q m n) after)) (sym e) leads
+pub spared_by : {A E : Type 0} (r : Result A E) (before after : Held) (request q : Request) → request ≡ q → OnErr r (Leads before (λ m n. Spares q m n) after) → OnErr r (Leads before (λ m n. Spares request m n) after)
+spared_by r before after request q e leads = subst (λ (s : Request). OnErr r (Leads before (λ m n. Spares s m n) after)) (sym e) leads
 
 -- the same for what is answered, if it is
 pub ok_by : {E : Type 0} (r : Result Reply E) (before after : Held) (one other : Reply → Machine → Machine → Type 0) → ((p : Reply) (m n : Machine) → one p m n → other p m n) → IfOk r (λ p. Leads before (one p) after) → IfOk r (λ p. Leads before (other p) after)
 ok_by (Ok p) before after one other f leads = leads_by before after (one p) (other p) (f p) leads
 ok_by (Err e) before after one other f leads = tt
-
--- the same where the engine stands for the machine
-pub ok_led : {E : Type 0} (r : Result Reply E) (before after : Held) → Legal before → (one other : Reply → Machine → Machine → Type 0) → ((p : Reply) (m n : Machine) → Stands before m → one p m n → other p m n) → IfOk r (λ p. Leads before (one p) after) → IfOk r (λ p. Leads before (other p) after)
-ok_led (Ok p) before after legal one other f leads = from_to legal (λ m s. let l = to_all leads m s in (l.0, f p m l.0 s l.1, l.2))
-ok_led (Err e) before after legal one other f leads = tt
-
--- ---- a body that is built
-
-pub queries_built : {E : Type 0} (r : Result Reply E) (engine : Held) (sid : ℕ) (body : List ℕ) (uid : ℕ) (name : List ℕ) → Asks body uid name → IfOk r (λ p. Leads engine (λ m n. queried m sid uid name ≡ (p, n)) engine) → IfOk r (λ p. Leads engine (λ m n. Queries m sid body p n) engine)
-queries_built r engine sid body uid name form leads =
-    ok_by r engine engine (λ p m n. queried m sid uid name ≡ (p, n)) (λ p m n. Queries m sid body p n) (λ p m n o. inl (record { uid = uid; name = name; form = form; outcome = o })) leads
 
 -- ---- a request, by its verb
 

@@ -147,7 +147,6 @@ with_own_open h author txn new changes is fit o =
       schema_is = o.schema_is;
       base_is = o.base_is;
       fitting = all_joined (λ (c : Change). fits txn.schema (of_change c) ≡ true) txn.own changes o.fitting fit;
-      plain = o.plain;
       author_is = o.author_is;
     })
 

@@ -137,7 +137,7 @@ module _ (author sid : ℕ) (txn : Transaction) (z : Zero) (l : IsLegal z.groups
         let ss = front ++ session_by sid txn ∷ back in
         let m = machine_beside z ss in
         let left : filter (λ (s : Session). not (s.sid == sid)) ss ≡ front ++ back = left_between sid front back (session_by sid txn) refl a b in
-        committed_is m sid (record { sid = sid; txn = txn }) (finds_own sid txn z front back a) refl ts some (clear rest ss none) lt ts_is
+        committed_is m sid (session_by sid txn) (finds_own sid txn z front back a) refl ts some (clear rest ss none) lt ts_is
         ∙ ap (λ (n : Machine). (replies.Commit sid ts, n))
         (is_beside (and_then z author (commit_of offer ts)) (front ++ back) _ (stand_commit z ss m (stands_beside z ss l) author offer ts txn.start txn.own (front ++ back) _ ts_is (committed_as ss none lt) left)
         ∙ ap (λ (y : Zero). machine_beside y (front ++ back)) (sym then));
@@ -149,7 +149,7 @@ module _ (author sid : ℕ) (txn : Transaction) (z : Zero) (l : IsLegal z.groups
   conflict_serves key ts text w then text_is clash some =
       let named = sym text_is in
       ended_serves author sid txn _ z w (Refused offer.start (reasons.Conflict key ts)) l then (refused_quiet offer.start (reasons.Conflict key ts)) refl (λ uid. refl) (λ starts. ap (ended starts) is.start_is)
-      (λ rest ss found. commit_clashes (machine_beside z ss) sid (record { sid = sid; txn = txn }) found refl (refusals.Conflict ts text) some (clashes rest ss key ts clash ∙ (λ i. Some (refusals.Conflict ts (named i)))))
+      (λ rest ss found. commit_clashes (machine_beside z ss) sid (session_by sid txn) found refl (refusals.Conflict ts text) some (clashes rest ss key ts clash ∙ (λ i. Some (refusals.Conflict ts (named i)))))
 
   -- ---- its tablet is held
 
@@ -163,4 +163,4 @@ module _ (author sid : ℕ) (txn : Transaction) (z : Zero) (l : IsLegal z.groups
   pub spent_sees : (spent : ℕ) → zeros.verdict z.history offer.start offer.preds offer.keys ≡ None → spent ≡ next z.history → next z.history ≡ 2 ^ 62 → txn.own ≢ [] → AreAtRest z.history → Sees sid (Some txn) (λ m n. ◌≡◌ {A = Pair} (committed m sid) (replies.Refused (refusals.TimestampsSpent spent), n)) z
   spent_sees spent none is_next end some rest = λ front back a b.
       let ss = front ++ session_by sid txn ∷ back in
-      commit_spent (machine_beside z ss) sid (record { sid = sid; txn = txn }) (finds_own sid txn z front back a) refl spent some (clear rest ss none) end is_next
+      commit_spent (machine_beside z ss) sid (session_by sid txn) (finds_own sid txn z front back a) refl spent some (clear rest ss none) end is_next

@@ -9,7 +9,7 @@ use Rattle.dg_graph.specs.declared.change.Change.{Change}
 use Rattle.dg_graph.specs.declared.change.Triple.{Triple}
 use Rattle.dg_graph.specs.Graphs.{IsLawful, after_changes}
 use Rattle.dg_graph.proofs.GraphLaws.{stays_lawful}
-use Rattle.dg_edges.specs.Deltas.{AreFitting, IsPlain}
+use Rattle.dg_edges.specs.Deltas.{AreFitting}
 use Rattle.dg_edges.proofs.OfferLaws.{all_fit}
 use Rattle.dg_zero.specs.declared.entry.Entry.{Entry}
 use Rattle.dg_zero.specs.declared.entry.Event.{Event}
@@ -46,7 +46,6 @@ open_longer n h more author txn legal active is =
       schema_is = is.schema_is ∙ sym same.0;
       base_is = is.base_is ∙ sym same.1;
       fitting = is.fitting;
-      plain = is.plain;
       author_is = is.author_is;
     }
 
@@ -79,8 +78,8 @@ open_then z w by author event txn then stay legal is =
 abbrev pub opened_by : ℕ → List Entry → Transaction
 opened_by author history = record { start = next history; schema = schema history; base = graph_at history (next history) []; own = []; author = author }
 
-pub opened_open : (z w : Zero) (author : ℕ) → IsLegal z.groups z.history → IsPlain (schema z.history) → w ≡ and_then z author (Begin (next z.history)) → IsLegal w.groups w.history → IsOpen w.history author (opened_by author z.history)
-opened_open z w author before plain then legal =
+pub opened_open : (z w : Zero) (author : ℕ) → IsLegal z.groups z.history → w ≡ and_then z author (Begin (next z.history)) → IsLegal w.groups w.history → IsOpen w.history author (opened_by author z.history)
+opened_open z w author before then legal =
     let b : Entry = record { author = author; event = Begin (next z.history) } in
     let grown = next_push z.history b in
     let now : world_at z.history (next z.history) ≡ world z.history = present_is_last z.groups z.history (next z.history) before (omega arith) in
@@ -93,7 +92,6 @@ opened_open z w author before plain then legal =
       schema_is = sym (ap (λ (u : World). u.schema) (same ∙ now));
       base_is = sym (graph_same (same));
       fitting = tt;
-      plain = plain;
       author_is = refl;
     })
   where

@@ -25,6 +25,7 @@ use Rattle.dg_node.specs.State.{alters, asked_by, machine_beside}
 use Rattle.dg_node.specs.Steps.{Spares}
 use Rattle.dg_node.specs.Transactions.{begun}
 use Rattle.dg_node.proofs.Agreeing.{agree}
+use Rattle.dg_node.proofs.Alone.{meets_here}
 use Rattle.dg_node.proofs.Between.{found_between, none_found, left_between, both_others, ended_between}
 use Rattle.dg_node.proofs.CommitLemmas.{begin_quiet, end_quiet, look_quiet}
 use Rattle.dg_node.proofs.Opens.{opened_by}
@@ -53,27 +54,8 @@ stands_beside z ss l =
 
 -- ---- a call that meets nothing of others, or appends nothing
 
-pub met_here : (takes : ℕ → Bool) (z : Zero) → IsLegal z.groups z.history → AreOthers takes z z
-met_here takes z l = record { groups_are = refl; entries = []; history_is = sym (append-nil z.history); others = tt; legal = l }
-
-pub meets_here : (takes : ℕ → Bool) (z w : Zero) (step : Zero → Zero → Type 0) → IsLegal z.groups z.history → step z w → Meets takes z w step
-meets_here takes z w step l s = record { met = z; others = met_here takes z l; goes = s }
-
 pub meets_by : (takes : ℕ → Bool) (z w : Zero) (one other : Zero → Zero → Type 0) → ((met : Zero) → AreOthers takes z met → one met w → other met w) → Meets takes z w one → Meets takes z w other
 meets_by takes z w one other f m = record { met = m.met; others = m.others; goes = f m.met m.others m.goes }
-
-none_refused : (es : List Entry) → AllByRecursion (λ (e : Entry). true ≡ false) es → es ≡ []
-none_refused [] a = refl
-none_refused (e ∷ es) a = absurd (let no : true ≡ false = a.0 in cc)
-
--- where each author is taken, nothing of others comes between
-pub met_alone : (z w : Zero) (step : Zero → Zero → Type 0) → Meets (λ n. true) z w step → step z w
-met_alone z w step m =
-    let none = none_refused m.others.entries m.others.others in
-    let groups = m.others.groups_are in
-    let history : m.met.history ≡ z.history = m.others.history_is ∙ (ap (λ (es : List Entry). z.history ++ es) none ∙ append-nil z.history) in
-    let same : m.met ≡ z = λ i. record { groups = groups i; history = history i } in
-    subst (λ (y : Zero). step y w) same m.goes
 
 pub adds_nothing : (author : ℕ) (z : Zero) → Adds author z z
 adds_nothing author z = record { groups_are = refl; entries = []; history_is = sym (append-nil z.history); own = tt }

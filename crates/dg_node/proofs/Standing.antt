@@ -6,11 +6,9 @@ use Rattle.dg_zero.specs.Counters.{next, next_uid}
 use Rattle.dg_zero.specs.States.{Zero}
 use Rattle.dg_zero.specs.Verdicts.{commits}
 use Rattle.dg_zero.specs.Worlds.{world_at}
-use Rattle.dg_node.specs.Held.{Opened}
-use Rattle.dg_node.specs.Held.{Held}
 use Rattle.dg_node.specs.Graphs.{committed_at}
 use Rattle.dg_node.specs.Machine.{Machine, Session}
-use Rattle.dg_node.specs.State.{session_from, alters, asked_by, machine_of, machine_beside, IsDrawn}
+use Rattle.dg_node.specs.State.{alters, asked_by, machine_beside, IsDrawn}
 use Rattle.dg_node.specs.Transactions.{keyed}
 
 -- a machine that has all that a history's has with these sessions, and agrees with the history
@@ -35,13 +33,3 @@ is_beside z ss m s = λ i. record {
   commits = s.commits_are i;
   sessions = s.sessions_are i;
 }
-
-abbrev pub StandFor : Zero → List Opened → Machine → Type 0
-StandFor zero opened machine = StandBeside zero (map session_from opened) machine
-
-abbrev pub Stands : Held → Machine → Type 0
-Stands held machine = StandFor held.zero held.opened machine
-
--- it is the engine's
-pub is_machine : (held : Held) (m : Machine) → Stands held m → m ≡ machine_of held
-is_machine held m s = is_beside held.zero (map session_from held.opened) m s
