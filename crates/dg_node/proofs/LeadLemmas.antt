@@ -1,6 +1,7 @@
 -- Steps of the engine, from those of the machine.
 use Rattle.std.proofs.Common.{◌≡◌, ℕ, inl, inr, List, refl, subst, sym, Ok, Err}
 use Rattle.std.specs.Prelude.{Result, IfOk, OnErr}
+use Rattle.dg_check.specs.declared.patterns.Refusal.{Refusal as BadPattern}
 use Rattle.dg_wire.specs.declared.refusal.Refusal.TheVariants as refusals
 use Rattle.dg_wire.specs.declared.reply.Reply.{Reply}
 use Rattle.dg_wire.specs.declared.reply.Reply.TheVariants as replies
@@ -26,12 +27,12 @@ spares_all (requests.Begin sid) m = inl refl
 spares_all (requests.Mutate sid body) m = inl refl
 spares_all r m = refl
 
-pub step_made : (before after : Held) (r : Request) (p : Reply) → Leads before (λ m n. Outcome m r p n) after → Leads before (λ m n. Step m r p n) after
-step_made before after r p leads = leads_by before after (λ m n. Outcome m r p n) (λ m n. Step m r p n) (λ m n o. inl o) leads
+pub step_made : (list : List BadPattern) (before after : Held) (r : Request) (p : Reply) → Leads before (λ m n. Outcome list m r p n) after → Leads before (λ m n. Step list m r p n) after
+step_made list before after r p leads = leads_by before after (λ m n. Outcome list m r p n) (λ m n. Step list m r p n) (λ m n o. inl o) leads
 
 -- memory was wanting, and no more was left than may be then
-pub step_spared : (before after : Held) (r : Request) → Leads before (λ m n. Spares r m n) after → MayWant before r → Leads before (λ m n. Step m r (replies.Refused refusals.Memory) n) after
-step_spared before after r leads wants =
+pub step_spared : (list : List BadPattern) (before after : Held) (r : Request) → Leads before (λ m n. Spares r m n) after → MayWant before r → Leads before (λ m n. Step list m r (replies.Refused refusals.Memory) n) after
+step_spared list before after r leads wants =
     record { leads = inr (record { takes = wants; free = refl; spared = leads.leads }) }
 
 -- where the machine stays, no more is left
@@ -49,13 +50,13 @@ ok_by (Err e) before after one other f leads = tt
 
 -- ---- a request, by its verb
 
-pub query_led : {E : Type 0} (r : Result Reply E) (engine : Held) (request : Request) (sid : ℕ) (body text : List ℕ) → request ≡ requests.Query sid body → text ≡ body → IfOk r (λ p. Leads engine (λ m n. Queries m sid text p n) engine) → IfOk r (λ p. Leads engine (λ m n. Outcome m request p n) engine)
-query_led r engine request sid body text e f leads =
-    subst (λ (q : Request). IfOk r (λ p. Leads engine (λ m n. Outcome m q p n) engine)) (sym e)
-    (subst (λ (b : List ℕ). IfOk r (λ p. Leads engine (λ m n. Queries m sid b p n) engine)) f leads)
+pub query_led : {E : Type 0} (list : List BadPattern) (r : Result Reply E) (engine : Held) (request : Request) (sid : ℕ) (body text : List ℕ) → request ≡ requests.Query sid body → text ≡ body → IfOk r (λ p. Leads engine (λ m n. Queries list m sid text p n) engine) → IfOk r (λ p. Leads engine (λ m n. Outcome list m request p n) engine)
+query_led list r engine request sid body text e f leads =
+    subst (λ (q : Request). IfOk r (λ p. Leads engine (λ m n. Outcome list m q p n) engine)) (sym e)
+    (subst (λ (b : List ℕ). IfOk r (λ p. Leads engine (λ m n. Queries list m sid b p n) engine)) f leads)
 
-pub discard_led : (p : Reply) (before after : Held) (request : Request) (sid : ℕ) → request ≡ requests.Discard sid → Leads before (λ m n. discarded m sid ≡ (p, n)) after → Leads before (λ m n. Outcome m request p n) after
-discard_led p before after request sid e leads = subst (λ (q : Request). Leads before (λ m n. Outcome m q p n) after) (sym e) leads
+pub discard_led : (list : List BadPattern) (p : Reply) (before after : Held) (request : Request) (sid : ℕ) → request ≡ requests.Discard sid → Leads before (λ m n. discarded m sid ≡ (p, n)) after → Leads before (λ m n. Outcome list m request p n) after
+discard_led list p before after request sid e leads = subst (λ (q : Request). Leads before (λ m n. Outcome list m q p n) after) (sym e) leads
 
 -- whatever comes of it, its calls take memory
 pub takes_memory : {A E : Type 0} (r : Result A E) (engine : Held) (request q : Request) → request ≡ q → ((m : Machine) → TakesMemory m q) → OnErr r (MayWant engine request)

@@ -6,6 +6,7 @@ use crate::mutations::mutate;
 use crate::owned::Owned;
 use crate::queries::query;
 use crate::transactions::{begin, commit, discard, no_session};
+use dg_check::Patterns;
 use dg_txn::Txn;
 use dg_values::{Mem, OutOfMemory};
 use dg_wire::{Refusal, Reply};
@@ -60,6 +61,7 @@ fn drop_closed(slots: &mut Vec<Slot>, place: usize)
 
 impl Engine {
     ghost use Rattle.std.specs.Prelude.{◌≡◌, ◌≤◌, ◌^◌, IfOk, OnErr, length};
+    ghost use Rattle.dg_check.specs.Patterns.{IsFrontOf};
     ghost use Rattle.dg_wire.specs.declared.request.Request.TheVariants.{Begin, Mutate};
     ghost use Rattle.dg_node.specs.Machine.{empty, empty_from};
     ghost use Rattle.dg_node.specs.Alters.{alters};
@@ -140,14 +142,22 @@ impl Engine {
         )
     }
 
-    /// Answers a query. Nothing changes.
-    pub fn query(&self, alloc: Global, sid: u32, body: &[u8]) -> Mem<Reply>
-        ensures { IfOk result (λ reply. Leads self.now (λ m n. Queries m sid body.now reply n) self.now) }
+    /// Answers a query. Nothing changes, but that the maker's list of refused patterns may grow.
+    pub fn query<P: Patterns>(
+        &self,
+        alloc: Global,
+        sid: u32,
+        body: &[u8],
+        patterns: &mut P,
+    ) -> Mem<Reply>
+        requires { length body.now ≤ 1048576 }
+        ensures answered { IfOk result (λ reply. Leads self.now (λ m n. Queries (P.refused patterns.new) m sid body.now reply n) self.now) }
+        ensures grows { IsFrontOf (P.refused patterns.old) (P.refused patterns.new) }
     {
         self.cluster.at_rest();
         match place_of(self.slots.as_slice(), sid) {
-            Some(place) => query(alloc, &self.slots[place].txn, sid, body),
-            None => query(alloc, &None, sid, body),
+            Some(place) => query(alloc, &self.slots[place].txn, sid, body, patterns),
+            None => query(alloc, &None, sid, body, patterns),
         }
     }
 
