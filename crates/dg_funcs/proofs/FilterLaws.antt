@@ -18,11 +18,11 @@ use Rattle.dg_check.specs.declared.vars.Variable.{Variable}
 use Rattle.dg_funcs.specs.Truth.{holds_at, step_of_part, step_of_filter, negated, passes, part_passes}
 use Rattle.dg_funcs.proofs.PassLaws.{and_true}
 
-any_mapped : {X : Type 0} (f : X → Bool) (xs : List X) → list_any (λ b. b) (map f xs) ≡ list_any f xs
+pub any_mapped : {X : Type 0} (f : X → Bool) (xs : List X) → list_any (λ b. b) (map f xs) ≡ list_any f xs
 any_mapped f [] = refl
 any_mapped f (x ∷ xs) = ap (λ b. f x || b) (any_mapped f xs)
 
-all_mapped : {X : Type 0} (f : X → Bool) (xs : List X) → list_all (λ b. b) (map f xs) ≡ list_all f xs
+pub all_mapped : {X : Type 0} (f : X → Bool) (xs : List X) → list_all (λ b. b) (map f xs) ≡ list_all f xs
 all_mapped f [] = refl
 all_mapped f (x ∷ xs) = ap (λ b. f x && b) (all_mapped f xs)
 

@@ -7,3 +7,6 @@ pub mod FilterLaws
 pub mod RootLaws
 pub mod EqualLaws
 pub mod TermLaws
+pub mod FoundLaws
+pub mod MeaningLaws
+pub mod FilterMeanings

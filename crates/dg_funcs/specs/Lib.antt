@@ -3,3 +3,5 @@ pub mod Truth
 pub mod Roots
 pub mod Tests
 pub mod Equal
+pub mod Meaning
+pub mod Laws

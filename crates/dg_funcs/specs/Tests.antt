@@ -1,7 +1,6 @@
 -- Tests of objects, and what is asked for.
-use Rattle.std.specs.Prelude.{ℕ, List, [], Bool, false, Option, is_some, map}
+use Rattle.std.specs.Prelude.{ℕ, List, [], Bool, false, Option, map}
 use Rattle.std.specs.Ordering.{nat_cmp, is_eq}
-use Rattle.regex.specs.Patterns.{Re, find_str}
 use Rattle.dg_values.specs.declared.value.Value.{Value}
 use Rattle.dg_values.specs.declared.value.Value.TheVariants.{Text}
 use Rattle.dg_values.specs.declared.value.Posting.{Posting}
@@ -58,7 +57,3 @@ value_terms v = []
 -- a text has the terms that are asked
 abbrev pub has_asked : Bool → List (List ℕ) → List ℕ → Bool
 has_asked all asked t = has_terms all asked (ascending text_cmp (terms_of t))
-
--- a pattern is found in a text
-abbrev pub found_in : Re → List ℕ → Bool
-found_in pattern t = is_some (find_str pattern t 0)

@@ -3,9 +3,10 @@
 use Rattle.std.specs.Prelude.{ℕ, pos, List, [], ◌∷◌, Bool, false, ◌==◌, nat_le, ◌%◌, ◌&&◌, not, if◌then◌else◌, length, is_some, Option, Some, None, option_to_list, filter, filter_map}
 use Rattle.std.specs.List.{list_any, list_all}
 use Rattle.std.specs.Ordering.{nat_cmp, is_eq, is_lt, is_le, is_gt, is_ge}
+use Rattle.std.specs.Str.{is_utf8}
 use Rattle.std.specs.declared.cmp.Ordering.{Ordering}
 use Rattle.regex.specs.declared.string.regex.Regex.{Regex}
-use Rattle.regex.specs.Patterns.{find_str}
+use Rattle.regex.specs.Patterns.{Re, find_str}
 use Rattle.regex.specs.Strings.{regex_pattern}
 use Rattle.dg_values.specs.declared.value.Value.{Value}
 use Rattle.dg_values.specs.declared.value.Value.TheVariants.{Int, Text}
@@ -88,9 +89,13 @@ is_between values v = false
 abbrev pub has_terms : Bool → List (List ℕ) → List (List ℕ) → Bool
 has_terms all asked terms = if all then list_all (has text_cmp terms) asked && nat_le 1 (length asked) else list_any (has text_cmp terms) asked
 
--- a pattern is found in a text
+-- a pattern is found in a text, which is UTF-8
+abbrev pub found_in : Re → List ℕ → Bool
+found_in pattern text = is_utf8 text && is_some (find_str pattern text 0)
+
+-- the same of a pattern that is built
 abbrev pub finds : Regex → List ℕ → Bool
-finds pattern text = is_some (find_str (regex_pattern pattern) text 0)
+finds pattern text = found_in (regex_pattern pattern) text
 
 -- ---- truth
 

@@ -4,8 +4,8 @@ ghost use Rattle.std.specs.List.{list_any};
 ghost use Rattle.std.specs.Ordering.{nat_cmp};
 ghost use Rattle.dg_values.specs.Ascending.{has};
 ghost use Rattle.regex.specs.Strings.{regex_pattern};
-ghost use Rattle.dg_funcs.specs.Truth.{stands_to_any, is_between, compared, count_along, nodes_along, texts_at, holds_at};
-ghost use Rattle.dg_funcs.specs.Tests.{has_asked, found_in};
+ghost use Rattle.dg_funcs.specs.Truth.{stands_to_any, is_between, compared, count_along, nodes_along, texts_at, found_in, holds_at};
+ghost use Rattle.dg_funcs.specs.Tests.{has_asked};
 
 use crate::comparing::{asked_by, compares, lies_between};
 use crate::following::{has_some, leads_to};

@@ -2,14 +2,22 @@
 ghost use Rattle.std.specs.Prelude.{◌≡◌, IfOk, OnOk};
 ghost use Rattle.std.specs.List.{list_any};
 ghost use Rattle.regex.specs.Strings.{matcher_pattern};
-ghost use Rattle.dg_funcs.specs.Truth.{texts_at};
-ghost use Rattle.dg_funcs.specs.Tests.{in_text, found_in};
+ghost use Rattle.dg_funcs.specs.Truth.{texts_at, found_in};
+ghost use Rattle.dg_funcs.specs.Tests.{in_text};
 
 use dg_graph::Snapshot;
 use dg_values::{Mem, OutOfMemory, Posting, Steps, Value};
 use regex::Matcher;
 use std::alloc::Global;
 use std::sync::ledger::Ledger;
+
+// Whether the pattern is found in a text.
+fn is_found_in(matcher: &mut Matcher<'_>, text: &str) -> bool
+    ensures found { result ≡ found_in (matcher_pattern matcher.old) text.now }
+    ensures same { matcher_pattern matcher.new ≡ matcher_pattern matcher.old }
+{
+    matcher.is_match(text)
+}
 
 // Whether the pattern is found in an object that is a text.
 fn is_found(matcher: &mut Matcher<'_>, object: &Posting) -> bool
@@ -18,7 +26,7 @@ fn is_found(matcher: &mut Matcher<'_>, object: &Posting) -> bool
 {
     match object {
         Posting::Val(value) => match value {
-            Value::Text(text) => matcher.is_match(text.as_str()),
+            Value::Text(text) => is_found_in(matcher, text.as_str()),
             _ => false,
         },
         Posting::Uid(_) => false,

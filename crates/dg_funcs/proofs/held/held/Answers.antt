@@ -9,8 +9,8 @@ use Rattle.dg_tokens.specs.Terms.{terms_of}
 use Rattle.dg_graph.proofs.Passing.{ascending_has}
 use Rattle.regex.specs.Strings.{regex_pattern}
 use Rattle.dg_check.specs.Vars.{named_nodes}
-use Rattle.dg_funcs.specs.Truth.{nodes_along, texts_at, holds_at}
-use Rattle.dg_funcs.specs.Tests.{has_asked, found_in}
+use Rattle.dg_funcs.specs.Truth.{nodes_along, texts_at, found_in, holds_at}
+use Rattle.dg_funcs.specs.Tests.{has_asked}
 use Rattle.dg_funcs.proofs.TestLaws.{has_terms_ascending}
 use Rattle.dg_funcs.proofs.held.held.Goals as goal
 

@@ -1,8 +1,7 @@
 use Rattle.std.proofs.Common.{◌≡◌, ℕ, ◌<◌, ◌≤◌, [], ◌∷◌, ◌++◌, length, get_or, ap, sym, ◌∙◌, arith}
 use Rattle.std.specs.List.{list_any}
 use Rattle.regex.specs.Strings.{regex_pattern}
-use Rattle.dg_funcs.specs.Tests.{found_in}
-use Rattle.dg_funcs.specs.Truth.{texts_at}
+use Rattle.dg_funcs.specs.Truth.{texts_at, found_in}
 use Rattle.dg_graph.proofs.Passing.{filter_some, filter_none}
 use Rattle.dg_funcs.proofs.IndexLaws.{gathered_is}
 use Rattle.dg_funcs.proofs.held.held_matching.Goals as goal

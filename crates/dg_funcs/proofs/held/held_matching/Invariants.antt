@@ -2,8 +2,7 @@ use Rattle.std.proofs.Common.{◌≡◌, take}
 use Rattle.std.specs.Prelude.{filter}
 use Rattle.std.specs.List.{list_any}
 use Rattle.regex.specs.Strings.{regex_pattern, matcher_pattern}
-use Rattle.dg_funcs.specs.Tests.{found_in}
-use Rattle.dg_funcs.specs.Truth.{texts_at}
+use Rattle.dg_funcs.specs.Truth.{texts_at, found_in}
 use Rattle.dg_funcs.proofs.held.held_matching.Given as goal
 
 abbrev pub invariant-loop-node : goal.invariant-loop-node

@@ -1,6 +1,7 @@
 use Rattle.std.proofs.Common.{◌≡◌, ◌<◌, length, false, ap, sym, ◌∙◌, arith}
 use Rattle.regex.specs.Strings.{matcher_pattern}
-use Rattle.dg_funcs.specs.Tests.{in_text, found_in}
+use Rattle.dg_funcs.specs.Tests.{in_text}
+use Rattle.dg_funcs.specs.Truth.{found_in}
 use Rattle.dg_funcs.proofs.TestLaws.{none_more_so_far}
 use Rattle.dg_funcs.proofs.matching.any_found.Goals as goal
 

@@ -1,7 +1,8 @@
 use Rattle.std.proofs.Common.{◌≡◌, take, false}
 use Rattle.std.specs.List.{list_any}
 use Rattle.regex.specs.Strings.{matcher_pattern}
-use Rattle.dg_funcs.specs.Tests.{in_text, found_in}
+use Rattle.dg_funcs.specs.Tests.{in_text}
+use Rattle.dg_funcs.specs.Truth.{found_in}
 use Rattle.dg_funcs.proofs.matching.any_found.Given as goal
 
 -- none so far, by the same pattern

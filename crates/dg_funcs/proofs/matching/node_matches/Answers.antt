@@ -2,7 +2,8 @@ use Rattle.std.proofs.Common.{◌∙◌}
 use Rattle.std.specs.List.{list_any}
 use Rattle.regex.specs.Strings.{matcher_pattern}
 use Rattle.dg_graph.specs.Graphs.{objects}
-use Rattle.dg_funcs.specs.Tests.{in_text, found_in}
+use Rattle.dg_funcs.specs.Tests.{in_text}
+use Rattle.dg_funcs.specs.Truth.{found_in}
 use Rattle.dg_funcs.proofs.TestLaws.{any_texts}
 use Rattle.dg_funcs.proofs.matching.node_matches.Goals as goal
 
