@@ -31,9 +31,9 @@ use Rattle.dg_zero.specs.Listings.{AreGainsAndLosses, listing, listing_by}
 use Rattle.dg_edges.specs.Altering.{has_each, are_alike, list_alike, is_reread, reread_keys, altered_keys, filed_under_schema, altered_parts}
 use Rattle.dg_edges.proofs.AlterLaws.{AreAlike, AreRead}
 use Rattle.dg_edges.proofs.AlterParts.{both_apart, both_gains}
+use Rattle.dg_edges.proofs.EdgeLaws.{none_listed}
 use Rattle.dg_edges.proofs.FilingLaws.{IsOfSubject, all_flat, all_mapped, listed_under, parts_equal}
 use Rattle.dg_edges.proofs.JoinLaws.{AreApart}
-use Rattle.dg_edges.proofs.PlainAlters.{none_listed}
 
 -- ---- one index, reverse and count
 

@@ -28,20 +28,7 @@ use Rattle.dg_keys.specs.declared.key.Key.TheVariants as keys
 use Rattle.dg_keys.specs.Keys.{key_cmp, pred_of}
 use Rattle.dg_zero.specs.Listings.{nodes, listing, listing_by}
 use Rattle.dg_keys.specs.KeyOrder.{key_order}
-use Rattle.dg_edges.specs.Deltas.{gains, data_key, data_keys, IsPlainDefinition, IsPlain}
-
--- ---- definitions
-
-pub plain_found : (schema : List PredDef) (p : List ℕ) (def : PredDef) → IsPlain schema → definition_of schema p ≡ Some def → IsPlainDefinition def
-plain_found [] p def l e = absurd (cc)
-plain_found (d ∷ schema) p def l e = by (is_named p d) e (λ k. plain_found schema p def l.1 k)
-  where
-    found : Some d ≡ Some def → d ≡ def
-    found e = cc
-
-    by : (v : Bool) → cond v (Some d) (definition_of schema p) ≡ Some def → (definition_of schema p ≡ Some def → IsPlainDefinition def) → IsPlainDefinition def
-    by true e rest = subst IsPlainDefinition (found e) l.0
-    by false e rest = rest e
+use Rattle.dg_edges.specs.Deltas.{gains, data_key, data_keys}
 
 -- ---- lists of a lawful graph
 
@@ -127,3 +114,17 @@ gains_none schema graph later key e = (λ i. changes_between (e i) (listing sche
 
 pub data_keys_ascend : (cs : List Change) → Ascends key_cmp (data_keys cs)
 data_keys_ascend cs = ascends_more key_cmp key_order [] (map data_key cs) tt
+
+-- a predicate that no triple of a graph fits has no object
+pub none_listed : (schema : List PredDef) (graph : List Triple) (p : List ℕ) (s : ℕ) → definition_of schema p ≡ None → AllByRecursion (λ t. fits schema t ≡ true) graph → objects graph p s ≡ []
+none_listed schema [] p s none a = refl
+none_listed schema (t ∷ graph) p s none a =
+    let other : is_of_subject p s t ≡ false = by (is_of_subject p s t) refl in
+    rw other (none_listed schema graph p s none a.1)
+  where
+    by : (v : Bool) → is_of_subject p s t ≡ v → v ≡ false
+    by true e =
+        let missing : definition_of schema t.p ≡ None = ap (definition_of schema) (same_subject p s t e).0 ∙ none in
+        let no : fits_by None t ≡ true = subst (λ (o : Option PredDef). fits_by o t ≡ true) missing a.0 in
+        absurd (cc)
+    by false e = refl

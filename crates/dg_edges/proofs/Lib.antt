@@ -12,7 +12,6 @@ pub mod CommitsSince
 pub mod KeysStay
 pub mod KindsStay
 pub mod ExactHistories
-pub mod PlainAlters
 pub mod AlterLaws
 pub mod AlterParts
 pub mod AlteredKeys

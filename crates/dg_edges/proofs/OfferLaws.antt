@@ -37,11 +37,11 @@ use Rattle.dg_zero.specs.Worlds.{change_of, changes_at, changes_of}
 use Rattle.dg_keys.specs.Conflicts.{conflict_cmp}
 use Rattle.dg_zero.specs.Listings.{listing, AreGainsAndLosses, triple_of, touched, keys_of_object, keys_of_token, keys_of_change, keys_of_changes}
 use Rattle.dg_keys.specs.KeyOrder.{key_order, conflict_order}
-use Rattle.dg_edges.specs.Deltas.{gains, data_key, data_conflict, data_conflicts, preds_of, IsPlainDefinition, IsPlain, AreFitting}
-use Rattle.dg_edges.specs.Laws.{DeltasLead, KeysAre, ChangesDoAsParts, Done, IsKeyed, HasNone, after_done, OthersLeave, CommitsDoAsChanges}
+use Rattle.dg_edges.specs.Deltas.{gains, data_key, data_conflict, data_conflicts, preds_of, AreFitting}
+use Rattle.dg_edges.specs.Laws.{DeltasLead, ChangesDoAsParts, Done, IsKeyed, HasNone, after_done, OthersLeave, CommitsDoAsChanges}
 use Rattle.dg_edges.proofs.PartLaws.{all_joined, own_ops}
 use Rattle.dg_edges.proofs.AgreeLaws.{Leads, lead_there, all_apart}
-use Rattle.dg_edges.proofs.EdgeLaws.{plain_found, listed_by}
+use Rattle.dg_edges.proofs.EdgeLaws.{listed_by}
 
 -- ---- the parts as changes: each leads to the new graph, and none leaves its triple as it was
 
@@ -143,51 +143,6 @@ deltas_lead schema graph cs parts fit l e =
     lead_there schema graph (after_changes schema graph cs) (changes_of parts) l.ascend m.ascend (single_from schema (after_changes schema graph cs) m.single)
     (all_lead graph (after_changes schema graph cs) (changes_of parts) (gains_differ schema graph (after_changes schema graph cs) parts l m e))
     (λ u ne. gains_cover schema graph (after_changes schema graph cs) parts l m e u ne)
-
--- ---- keys
-
-no_tokens : (def : PredDef) (t : Triple) (os : List Posting) → def.tokens ≡ [] → flat_map (keys_of_object def t) os ≡ []
-no_tokens def t [] e = refl
-no_tokens def t (o ∷ os) e =
-    let none : keys_of_object def t o ≡ [] = ap (λ (ts : List Tokenizer). flat_map (keys_of_token def t) (flat_map (λ tokenizer. tokens_of_object tokenizer o) ts)) e in
-    λ i. none i ++ no_tokens def t os e i
-
-plain_key : (def : PredDef) (graph : List Triple) (c : Change) → IsPlainDefinition def → keys_of_change (Some def) graph c ≡ conflicts.Data (changed c).p (changed c).s (cond (not def.list) None (Some (changed c).o)) ∷ []
-plain_key def graph (changes.Set t) q = rw (no_tokens def t (touched def graph (changes.Set t)) q.0, q.2, q.1) (by def.list)
-  where
-    by : (v : Bool) → conflicts.Data t.p t.s (cond v (Some t.o) None) ∷ [] ≡ conflicts.Data t.p t.s (cond (not v) None (Some t.o)) ∷ []
-    by true = refl
-    by false = refl
-plain_key def graph (changes.Del t) q = rw (no_tokens def t (touched def graph (changes.Del t)) q.0, q.2, q.1) (by def.list)
-  where
-    by : (v : Bool) → conflicts.Data t.p t.s (cond v (Some t.o) None) ∷ [] ≡ conflicts.Data t.p t.s (cond (not v) None (Some t.o)) ∷ []
-    by true = refl
-    by false = refl
-
-key_by : (schema : List PredDef) (graph : List Triple) (c : Change) → IsPlain schema → fits schema (changed c) ≡ true → keys_of_change (definition_of schema (changed c).p) graph c ≡ data_conflict schema (changed c) ∷ []
-key_by schema graph c plain fit = by (definition_of schema (changed c).p) refl
-  where
-    by : (d : Option PredDef) → definition_of schema (changed c).p ≡ d → keys_of_change d graph c ≡ data_conflict schema (changed c) ∷ []
-    by None e =
-        let g : fits schema (changed c) ≡ false = ap (λ (d : Option PredDef). fits_by d (changed c)) e in
-        absurd (both_ways (fits schema (changed c)) g fit)
-    by (Some def) e =
-        let one : not def.list ≡ is_single schema (changed c).p = sym (ap is_single_by e) in
-        plain_key def graph c (plain_found schema (changed c).p def plain e) ∙ λ i. conflicts.Data (changed c).p (changed c).s (cond (one i) None (Some (changed c).o)) ∷ []
-
-same_triple : (c : Change) → triple_of c ≡ changed c
-same_triple (changes.Set t) = refl
-same_triple (changes.Del t) = refl
-
-pub keys_in_turn : (schema : List PredDef) (graph : List Triple) (cs : List Change) → IsPlain schema → AreFitting schema cs → keys_of_changes schema graph cs ≡ data_conflicts schema cs
-keys_in_turn schema graph [] plain fit = refl
-keys_in_turn schema graph (c ∷ cs) plain fit =
-    let one : keys_of_change (definition_of schema (triple_of c).p) graph c ≡ data_conflict schema (changed c) ∷ [] = ap (λ (t : Triple). keys_of_change (definition_of schema t.p) graph c) (same_triple c) ∙ key_by schema graph c plain fit.0 in
-    let rest = keys_in_turn schema (after_change schema graph c) cs plain fit.1 in
-    λ i. one i ++ rest i
-
-pub keys_stay : KeysAre
-keys_stay schema graph cs plain fit = ap (ascending conflict_cmp) (keys_in_turn schema graph cs plain fit)
 
 -- ---- soundness
 

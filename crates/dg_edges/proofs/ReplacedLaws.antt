@@ -30,10 +30,9 @@ use Rattle.dg_keys.specs.declared.conflict.ConflictKey.{ConflictKey}
 use Rattle.dg_keys.specs.Keys.{key_cmp}
 use Rattle.dg_keys.specs.KeyOrder.{key_order}
 use Rattle.dg_zero.specs.Listings.{keys_of_token, keys_of_object, reverse_keys, keys_of_change, keys_of_changes}
-use Rattle.dg_edges.specs.Deltas.{data_key, IsPlain}
+use Rattle.dg_edges.specs.Deltas.{data_key}
 use Rattle.dg_edges.specs.Lists.{objects_at, reads_at}
 use Rattle.dg_edges.specs.Replaced.{is_indexed, keys_replaced, read_by, read_key, read_keys, sole_after, kept_after, counted_keys, keys_of_tokens, keys_of_data, keys_of_count, keys_with, keys_by}
-use Rattle.dg_edges.proofs.EdgeLaws.{plain_found}
 use Rattle.dg_edges.proofs.ListLaws.{all_one}
 
 -- ---- a delete, seen by one subject
@@ -317,25 +316,6 @@ reads_are schema cs = all_one (read_keys schema cs) (all_read_keys (λ k. reads_
     one None c = tt
     one (Some def) (changes.Del t) = tt
     one (Some def) (changes.Set t) = elim (keys_replaced def) as (λ v. AllByRecursion (λ k. reads_at k ≡ 1) (cond v (keys.Data t.p t.s ∷ []) [])) [ true ↦ (refl, tt) | false ↦ tt ]
-
--- under a schema without index, reverse and count none is
-pub none_read : (schema : List PredDef) (cs : List Change) → IsPlain schema → read_keys schema cs ≡ []
-none_read schema cs plain = ap (ascending key_cmp) (all cs)
-  where
-    one : (d : Option PredDef) (c : Change) → definition_of schema (changed c).p ≡ d → read_by d c ≡ []
-    one None c e = refl
-    one (Some def) (changes.Del t) e = refl
-    one (Some def) (changes.Set t) e =
-        let is = plain_found schema t.p def plain e in
-        (λ i. cond (not def.list && (is_indexed (is.0 i) || (is.1 i && def.count))) (keys.Data t.p t.s ∷ []) []) ∙ by def.list
-      where
-        by : (l : Bool) → cond (not l && false) (keys.Data t.p t.s ∷ []) [] ≡ []
-        by true = refl
-        by false = refl
-
-    all : (ds : List Change) → flat_map (read_key schema) ds ≡ []
-    all [] = refl
-    all (d ∷ ds) = (λ i. one (definition_of schema (changed d).p) d refl i ++ flat_map (read_key schema) ds) ∙ all ds
 
 -- each that a change has to know is among them
 pub read_keys_there : (schema : List PredDef) (cs : List Change) (i : ℕ) (c : Change) → i < length cs → get_or cs i c ≡ c → AllByRecursion (λ k. has key_cmp (read_keys schema cs) k ≡ true) (read_key schema c)

@@ -1,4 +1,4 @@
--- Parts by their keys, the subjects and predicates of changes, and the keys of changes where a schema has no index, reverse and count.
+-- Parts by their keys, and the subjects, predicates and triples of changes.
 use Rattle.std.specs.Prelude.{◌≡◌, ℕ, true, false, List, [], ◌∷◌, Some, None, if◌then◌else◌, map}
 use Rattle.std.specs.List.{AllByRecursion}
 use Rattle.dg_values.specs.Order.{text_cmp}
@@ -52,14 +52,6 @@ data_conflicts schema changes = map (λ c. data_conflict schema (changed c)) cha
 -- the predicates of changes, ascending
 abbrev pub preds_of : List Change → List (List ℕ)
 preds_of changes = ascending text_cmp (map (λ c. (changed c).p) changes)
-
--- neither index nor reverse nor count
-abbrev pub IsPlainDefinition : PredDef → Type 0
-IsPlainDefinition def = (def.tokens ≡ []) × (def.reverse ≡ false) × (def.count ≡ false)
-
--- no definition has index, reverse or count
-abbrev pub IsPlain : List PredDef → Type 0
-IsPlain schema = AllByRecursion IsPlainDefinition schema
 
 -- each change is of a triple of a declared predicate, with an object of that predicate's kind
 abbrev pub AreFitting : List PredDef → List Change → Type 0

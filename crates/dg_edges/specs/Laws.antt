@@ -29,16 +29,12 @@ use Rattle.dg_edges.specs.declared.edge.Edge.{Edge}
 use Rattle.dg_edges.specs.declared.fault.EdgeFault.{EdgeFault}
 use Rattle.dg_edges.specs.Resolving.{Resolves}
 use Rattle.dg_edges.specs.Expanding.{expanded}
-use Rattle.dg_edges.specs.Deltas.{data_conflict, data_conflicts, preds_of, IsPlain, AreFitting}
+use Rattle.dg_edges.specs.Deltas.{data_conflict, data_conflicts, preds_of, AreFitting}
 use Rattle.dg_edges.specs.Regions.{triple_keys, AgreeIn, listing_conflict}
 
 -- parts that are what lists gain and lose by changes, as changes, lead where the changes lead
 abbrev pub DeltasLead : Type 0
 DeltasLead = (schema : List PredDef) (graph : List Triple) (changes : List Change) (parts : List Part) → AreFitting schema changes → IsLawful schema graph → AreGainsAndLosses schema graph schema (after_changes schema graph changes) parts → after_changes schema graph (changes_of parts) ≡ after_changes schema graph changes
-
--- where a schema has no index, reverse and count, the keys of changes don't depend on the graph
-abbrev pub KeysAre : Type 0
-KeysAre = (schema : List PredDef) (graph : List Triple) (changes : List Change) → IsPlain schema → AreFitting schema changes → conflict_keys schema graph changes ≡ ascending conflict_cmp (data_conflicts schema changes)
 
 -- an offer of such parts and the keys of one or more changes is sound
 abbrev pub OffersAreSound : Type 0

@@ -10,7 +10,7 @@ ghost use Rattle.dg_keys.specs.Keys.{key_cmp};
 ghost use Rattle.dg_zero.specs.Listings as listings;
 ghost use Rattle.dg_zero.specs.Listings.{keys_of_changes};
 ghost use Rattle.dg_edges.specs.Deltas as definitions;
-ghost use Rattle.dg_edges.specs.Deltas.{data_key, IsPlain};
+ghost use Rattle.dg_edges.specs.Deltas.{data_key};
 ghost use Rattle.dg_edges.specs.Replaced as changing;
 ghost use Rattle.dg_edges.specs.Replaced.{read_key, kept_after, keys_by};
 
@@ -95,7 +95,6 @@ pub fn conflict_keys<S: Snapshot, L: Ledger>(
 ) -> Mem<Vec<ConflictKey>>
     ensures keys { IfOk result (λ v. v.items ≡ listings.conflict_keys (S.declared snap.now) (S.graph snap.now) changes.now) }
     ensures reads { OnOk result (reads.new ≡ reads.old + length (changing.read_keys (S.declared snap.now) changes.now)) }
-    ensures plain { IsPlain (S.declared snap.now) → reads.new ≡ reads.old }
 {
     let keys = read_keys(alloc, snap.schema(), changes)?;
     let found = keys_in_turn(alloc, snap, keys.as_slice(), changes, reads)?;

@@ -10,6 +10,7 @@ mod edge;
 mod expanding;
 mod fault;
 mod filing;
+mod fitting;
 mod gathering;
 mod joining;
 mod laws;
@@ -17,7 +18,6 @@ mod lists;
 mod names;
 mod numbers;
 mod offer;
-mod plain;
 mod replaced;
 mod rereading;
 mod resolving;
@@ -30,9 +30,9 @@ pub use differing::between;
 pub use edge::{Edge, Named, Resolved, Target};
 pub use expanding::expand;
 pub use fault::EdgeFault;
+pub use fitting::are_fitting;
 pub use laws::{
     changes_as_parts, commits_as_changes, exact_histories, mutations, named_triples, offers,
 };
 pub use offer::{copies, offer_of};
-pub use plain::{are_fitting, is_plain};
 pub use resolving::resolve;

@@ -21,10 +21,10 @@ module _ {X : Type 0} (cmp : X → X → Ordering) where
   abbrev pub sifted : (Bool → Bool) → List X → List X → List X
   sifted f ys xs = filter (λ x. f (has cmp ys x)) xs
 
-  sifted_kept : (f : Bool → Bool) (ys : List X) (x : X) (xs : List X) → f (has cmp ys x) ≡ true → sifted f ys (x ∷ xs) ≡ x ∷ sifted f ys xs
+  pub sifted_kept : (f : Bool → Bool) (ys : List X) (x : X) (xs : List X) → f (has cmp ys x) ≡ true → sifted f ys (x ∷ xs) ≡ x ∷ sifted f ys xs
   sifted_kept f ys x xs e = ap (λ b. cond b (x ∷ sifted f ys xs) (sifted f ys xs)) e
 
-  sifted_out : (f : Bool → Bool) (ys : List X) (x : X) (xs : List X) → f (has cmp ys x) ≡ false → sifted f ys (x ∷ xs) ≡ sifted f ys xs
+  pub sifted_out : (f : Bool → Bool) (ys : List X) (x : X) (xs : List X) → f (has cmp ys x) ≡ false → sifted f ys (x ∷ xs) ≡ sifted f ys xs
   sifted_out f ys x xs e = ap (λ b. cond b (x ∷ sifted f ys xs) (sifted f ys xs)) e
 
   -- what is below all items doesn't count

@@ -1,3 +1,4 @@
 pub mod Filters
+pub mod Galloping
 pub mod Paging
 pub mod Runs

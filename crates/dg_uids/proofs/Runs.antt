@@ -9,9 +9,9 @@ use Rattle.std.specs.Ordering.{is_eq}
 use Rattle.dg_values.specs.Order.{IsOrder}
 use Rattle.dg_values.specs.Ascending.{Ascends, has, with_one, without_one}
 use Rattle.dg_sets.proofs.MadeOrders.{total_from}
-use Rattle.dg_sets.proofs.Sets.{eq_turn, not_above, ascends_with, one_list, has_more, ascends_more}
+use Rattle.dg_sets.proofs.Sets.{eq_turn, not_above, ascends_with, one_list, has_more, ascends_more, has_with, has_joined}
 use Rattle.dg_sets.proofs.Merges.{joined, joined_above, above_both}
-use Rattle.dg_uids.proofs.Filters.{sifted}
+use Rattle.dg_uids.proofs.Filters.{sifted, sifted_kept, sifted_out}
 
 -- a list around what stands at a place
 pub split_at_item : {X : Type 0} (xs : List X) (i : ℕ) (x : X) → slice_get xs i ≡ Some x → xs ≡ take i xs ++ x ∷ drop (suc i) xs
@@ -57,6 +57,42 @@ module _ {X : Type 0} (cmp : X → X → Ordering) (o : IsOrder cmp) (x : X) (xs
   stays [] back a = refl
   stays (w ∷ front) back a =
       joined_above cmp (total_from cmp o) w xs (front ++ back) (above_both cmp (total_from cmp o) w x xs a.0 cut.0) ∙ ap (λ zs. w ∷ zs) (stays front back a.1)
+
+  -- ---- the rest is left for what is above the uid
+
+  none_below : (w : X) (front : List X) → AllByRecursion (λ z. cmp z x ≡ Less) front → cmp x w ≡ Less → has cmp front w ≡ false
+  none_below w [] a l = refl
+  none_below w (z ∷ front) a l = ap (λ v. is_eq v || has cmp front w) (o.trans z x w a.0 l) ∙ none_below w front a.1 l
+
+  has_above : (w : X) → cmp x w ≡ Less → has cmp above w ≡ has cmp rest w
+  has_above w l =
+      let behind : (is_eq (cmp x w) || has cmp above w) ≡ has cmp above w = ap (λ v. is_eq v || has cmp above w) l in
+      let ahead : (is_eq (cmp x w) || has cmp rest w) ≡ has cmp rest w = ap (λ v. is_eq v || has cmp rest w) l in
+      sym (ap (λ b. b || (is_eq (cmp x w) || has cmp above w)) (none_below w below (front_below cmp below x above split_ascends) l) ∙ behind)
+      ∙ sym (has_joined cmp o below (x ∷ above) w)
+      ∙ ap (λ zs. has cmp zs w) (sym put)
+      ∙ has_with cmp o rest x w
+      ∙ ahead
+
+  sifted_above : (f : Bool → Bool) (later : List X) → AllByRecursion (λ w. cmp x w ≡ Less) later → sifted cmp f above later ≡ sifted cmp f rest later
+  sifted_above f [] a = refl
+  sifted_above f (w ∷ later) a =
+      let more = sifted_above f later a.1 in
+      λ i. cond (f (has_above w a.0 i)) (w ∷ more i) (more i)
+
+  -- one uid is asked for, and kept
+  pub kept_one : (f : Bool → Bool) (done all : List X) → f (has cmp rest x) ≡ true → done ++ sifted cmp f rest (x ∷ xs) ≡ all → (done ++ x ∷ []) ++ sifted cmp f above xs ≡ all
+  kept_one f done all is so_far =
+      append_assoc done (x ∷ []) (sifted cmp f above xs)
+      ∙ ap (λ zs. done ++ x ∷ zs) (sifted_above f xs cut.0)
+      ∙ ap (λ zs. done ++ zs) (sym (sifted_kept cmp f rest x xs is))
+      ∙ so_far
+
+  -- one uid is asked for, and left out
+  pub left_one : (f : Bool → Bool) (done all : List X) → f (has cmp rest x) ≡ false → done ++ sifted cmp f rest (x ∷ xs) ≡ all → done ++ sifted cmp f above xs ≡ all
+  left_one f done all isnt so_far =
+      ap (λ zs. done ++ zs) (sifted_above f xs cut.0 ∙ sym (sifted_out cmp f rest x xs isnt))
+      ∙ so_far
 
   -- one uid is cut out
   pub cut_one : (done all : List X) → without_one cmp rest x ≡ below ++ above → done ++ sifted cmp not (x ∷ xs) rest ≡ all → (done ++ below) ++ sifted cmp not xs above ≡ all

@@ -5,7 +5,6 @@ ghost use Rattle.dg_values.specs.Ascending.{Ascends};
 ghost use Rattle.dg_uids.specs.Sets.{lacking};
 
 use crate::sides::{around, is_much_shorter};
-use dg_sets::is_there;
 use dg_values::{Mem, OutOfMemory};
 use std::alloc::Global;
 use std::cmp::Ordering;
@@ -25,20 +24,25 @@ pub(crate) fn difference(alloc: Global, uids: &[u64], others: &[u64]) -> Mem<Vec
     }
 }
 
-// The few that aren't among the many, which are searched by halves.
+// The few that aren't among the many, in which each is searched for from where the last one was.
 fn missing(alloc: Global, few: &[u64], many: &[u64]) -> Mem<Vec<u64>>
-    requires { Ascends nat_cmp many.now }
+    requires few { Ascends nat_cmp few.now }
+    requires many { Ascends nat_cmp many.now }
     ensures { IfOk result (λ list. list.items ≡ lacking few.now many.now) }
 {
-    Ok(
-        few.iter()
-            .copied()
-            .filter(|uid| !is_there(many, uid))
-            .collect(alloc)?,
-    )
+    let mut list = Vec::new(alloc);
+    let mut rest = many;
+    for uid in few {
+        let (_, is_there, above) = around(rest, *uid);
+        rest = above;
+        if !is_there {
+            list.push(*uid)?;
+        }
+    }
+    Ok(list)
 }
 
-// The many in runs, cut at the few, which are searched for by halves.
+// The many in runs, cut at the few, each of which is searched for from where the last one was.
 fn cut(alloc: Global, many: &[u64], few: &[u64]) -> Mem<Vec<u64>>
     requires many { Ascends nat_cmp many.now }
     requires few { Ascends nat_cmp few.now }
@@ -47,7 +51,7 @@ fn cut(alloc: Global, many: &[u64], few: &[u64]) -> Mem<Vec<u64>>
     let mut list = Vec::new(alloc);
     let mut rest = many;
     for uid in few {
-        let (below, above) = around(rest, *uid);
+        let (below, _, above) = around(rest, *uid);
         list.extend_from_slice(below)?;
         rest = above;
     }

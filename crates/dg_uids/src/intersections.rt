@@ -4,8 +4,7 @@ ghost use Rattle.std.specs.Ordering.{nat_cmp};
 ghost use Rattle.dg_values.specs.Ascending.{Ascends};
 ghost use Rattle.dg_uids.specs.Sets.{common};
 
-use crate::sides::is_much_shorter;
-use dg_sets::is_there;
+use crate::sides::{around, is_much_shorter};
 use dg_values::{Mem, OutOfMemory};
 use std::alloc::Global;
 use std::cmp::Ordering;
@@ -25,17 +24,22 @@ pub(crate) fn intersection(alloc: Global, uids: &[u64], others: &[u64]) -> Mem<V
     }
 }
 
-// The few that are among the many, which are searched by halves.
+// The few that are among the many, in which each is searched for from where the last one was.
 fn found(alloc: Global, few: &[u64], many: &[u64]) -> Mem<Vec<u64>>
-    requires { Ascends nat_cmp many.now }
+    requires few { Ascends nat_cmp few.now }
+    requires many { Ascends nat_cmp many.now }
     ensures { IfOk result (λ list. list.items ≡ common few.now many.now) }
 {
-    Ok(
-        few.iter()
-            .copied()
-            .filter(|uid| is_there(many, uid))
-            .collect(alloc)?,
-    )
+    let mut list = Vec::new(alloc);
+    let mut rest = many;
+    for uid in few {
+        let (_, is_there, above) = around(rest, *uid);
+        rest = above;
+        if is_there {
+            list.push(*uid)?;
+        }
+    }
+    Ok(list)
 }
 
 // The same by going through both.

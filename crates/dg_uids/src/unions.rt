@@ -24,7 +24,7 @@ pub(crate) fn both(alloc: Global, uids: &[u64], others: &[u64]) -> Mem<Vec<u64>>
     }
 }
 
-// The many in runs, with the few between them, whose places are searched for by halves.
+// The many in runs, with the few between them, whose places are each searched for from the last one on.
 fn spliced(alloc: Global, many: &[u64], few: &[u64]) -> Mem<Vec<u64>>
     requires many { Ascends nat_cmp many.now }
     requires few { Ascends nat_cmp few.now }
@@ -33,7 +33,7 @@ fn spliced(alloc: Global, many: &[u64], few: &[u64]) -> Mem<Vec<u64>>
     let mut list = Vec::new(alloc);
     let mut rest = many;
     for uid in few {
-        let (below, above) = around(rest, *uid);
+        let (below, _, above) = around(rest, *uid);
         list.extend_from_slice(below)?;
         list.push(*uid)?;
         rest = above;

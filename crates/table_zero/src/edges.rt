@@ -12,7 +12,7 @@ use crate::words::{halved, number, told, truth, words_of};
 use crate::{counted, large};
 use dg_edges::{
     EdgeFault, Resolved, are_fitting, changes_as_parts, commits_as_changes, exact_histories,
-    is_plain, mutations, named_triples, offers, preds_of, resolve,
+    mutations, named_triples, offers, preds_of, resolve,
 };
 use dg_graph::Change;
 use dg_nquad::{NquadFault, read_mutation};
@@ -50,7 +50,6 @@ pub(crate) fn answer(
 
 fn asked(alloc: Global, ground: &Ground, command: &str, rest: &str) -> Answer<String> {
     match command {
-        "plain" => truth(alloc, is_plain(&ground.at.schema)),
         "resolve" => resolved(alloc, &ground.at.schema, rest),
         "expand" => expanded(alloc, ground, rest),
         "alter" => altered(alloc, ground, rest),

@@ -17,7 +17,7 @@ loop-uid-preserved c =
     let left : drop k few ≡ x ∷ later = left_from few k x c.loop-uid-test.true (at_place few k c.loop-uid-test.true) in
     let rest = c.loop-uid.rest.now in
     let below = c.around.result.0.now in
-    let above = c.around.result.1.now in
+    let above = c.around.result.2.now in
     let cut : Ascends nat_cmp (x ∷ later) = subst (Ascends nat_cmp) left (ascends_left nat_cmp k few c.requires.few) in
     let all = either c.args.many.now few in
     record {

@@ -1,25 +1,11 @@
-// Whether a schema keeps lists of objects alone, and whether changes fit it.
+// Whether changes fit a schema.
 ghost use Rattle.std.specs.Prelude.{◌≡◌, ◌↔◌, IsTrue};
 ghost use Rattle.dg_graph.specs.Graphs.{fits};
 ghost use Rattle.dg_graph.specs.Changes.{changed};
-ghost use Rattle.dg_edges.specs.Deltas.{IsPlainDefinition, IsPlain, AreFitting};
+ghost use Rattle.dg_edges.specs.Deltas.{AreFitting};
 
 use dg_graph::{Change, fits};
-use dg_schema::{PredDef, Schema};
-
-// Whether a definition has neither index nor reverse nor count.
-fn is_plain_definition(definition: &PredDef) -> bool
-    ensures { IsTrue result ↔ IsPlainDefinition definition.now }
-{
-    definition.tokens.is_empty() && !definition.reverse && !definition.count
-}
-
-/// Whether no definition has index, reverse or count. It takes no memory.
-pub fn is_plain(schema: &Schema) -> bool
-    ensures { IsTrue result ↔ IsPlain schema.now }
-{
-    schema.definitions().iter().all(is_plain_definition)
-}
+use dg_schema::Schema;
 
 // Whether the triple of a change fits.
 fn change_fits(schema: &Schema, change: &Change) -> bool
