@@ -1,6 +1,6 @@
 -- What one ascending list has, or lacks, of another: one step of a pass over both, and one run of a cut.
 use Rattle.std.proofs.Common.{◌≡◌, ℕ, ◌+◌, ◌<◌, ◌≤◌, Bool, true, false, cond, List, [], ◌∷◌, ◌++◌, length, get_or, drop, refl, ap, subst, sym, ◌∙◌, append_assoc}
-use Rattle.std.proofs.lemmas.List.{drop_all, append-nil, get_or_default}
+use Rattle.std.proofs.lemmas.List.{drop_all, get_or_default}
 use Rattle.std.specs.Prelude.{filter, not, ◌||◌, ◌&&◌}
 use Rattle.std.specs.List.{AllByRecursion}
 use Rattle.std.specs.declared.cmp.Ordering.{Ordering}
@@ -59,23 +59,12 @@ module _ {X : Type 0} (cmp : X → X → Ordering) (o : IsOrder cmp) where
         ∙ append_assoc done (x ∷ []) (sifted cmp f (y ∷ drop (k + 1) ys) (drop (i + 1) xs))
         ∙ ap (λ zs. done ++ zs) (sym (sifted_kept cmp f (y ∷ drop (k + 1) ys) x (drop (i + 1) xs) (ap f (lacks_below x y (drop (k + 1) ys) others l) ∙ t))) ∙ here
 
-    pub less_out : f false ≡ false → cmp x y ≡ Less → done ++ sifted cmp f (drop k ys) (drop (i + 1) xs) ≡ all
-    less_out t l =
-        ap (λ zs. done ++ sifted cmp f zs (drop (i + 1) xs)) (left_from ys k y hk ey)
-        ∙ ap (λ zs. done ++ zs) (sym (sifted_out cmp f (y ∷ drop (k + 1) ys) x (drop (i + 1) xs) (ap f (lacks_below x y (drop (k + 1) ys) others l) ∙ t))) ∙ here
-
     -- the others have it, and it is below the rest
     there : cmp x y ≡ Equal → has cmp (y ∷ drop (k + 1) ys) x ≡ true
     there e = subst (λ (z : X). has cmp (z ∷ drop (k + 1) ys) x ≡ true) (o.same x y e) (has_first x (drop (k + 1) ys))
 
     beyond : cmp x y ≡ Equal → sifted cmp f (y ∷ drop (k + 1) ys) (drop (i + 1) xs) ≡ sifted cmp f (drop (k + 1) ys) (drop (i + 1) xs)
     beyond e = sifted_behind cmp f y (drop (k + 1) ys) (drop (i + 1) xs) (subst (λ (z : X). AllByRecursion (λ w. cmp z w ≡ Less) (drop (i + 1) xs)) (o.same x y e) rest.0)
-
-    pub equal_kept : f true ≡ true → cmp x y ≡ Equal → (done ++ x ∷ []) ++ sifted cmp f (drop (k + 1) ys) (drop (i + 1) xs) ≡ all
-    equal_kept t e =
-        append_assoc done (x ∷ []) (sifted cmp f (drop (k + 1) ys) (drop (i + 1) xs))
-        ∙ ap (λ zs. done ++ x ∷ zs) (sym (beyond e))
-        ∙ ap (λ zs. done ++ zs) (sym (sifted_kept cmp f (y ∷ drop (k + 1) ys) x (drop (i + 1) xs) (ap f (there e) ∙ t))) ∙ here
 
     pub equal_out : f true ≡ false → cmp x y ≡ Equal → done ++ sifted cmp f (drop (k + 1) ys) (drop (i + 1) xs) ≡ all
     equal_out t e =
@@ -90,20 +79,9 @@ module _ {X : Type 0} (cmp : X → X → Ordering) (o : IsOrder cmp) where
 
   -- ---- the ends
 
-  none_found : (xs : List X) → sifted cmp (λ b. b) [] xs ≡ []
-  none_found [] = refl
-  none_found (x ∷ xs) = none_found xs
-
   all_lacked : (xs : List X) → sifted cmp not [] xs ≡ xs
   all_lacked [] = refl
   all_lacked (x ∷ xs) = ap (λ zs. x ∷ zs) (all_lacked xs)
-
-  pub found_end_items : (xs ys done all : List X) (i k : ℕ) (f : Bool → Bool) → length xs ≤ i → done ++ sifted cmp f (drop k ys) (drop i xs) ≡ all → done ≡ all
-  found_end_items xs ys done all i k f le so_far = sym (append-nil done) ∙ sym (λ j. done ++ sifted cmp f (drop k ys) (drop_all i xs le j)) ∙ so_far
-
-  pub found_end_others : (xs ys done all : List X) (i k : ℕ) → length ys ≤ k → done ++ sifted cmp (λ b. b) (drop k ys) (drop i xs) ≡ all → done ≡ all
-  found_end_others xs ys done all i k le so_far =
-      sym (append-nil done) ∙ ap (λ zs. done ++ zs) (sym (none_found (drop i xs))) ∙ sym (λ j. done ++ sifted cmp (λ b. b) (drop_all k ys le j) (drop i xs)) ∙ so_far
 
   pub lacking_end_items : (xs ys done all : List X) (i k : ℕ) → length xs ≤ i → done ++ sifted cmp not (drop k ys) (drop i xs) ≡ all → done ++ drop i xs ≡ all
   lacking_end_items xs ys done all i k le so_far = (λ j. done ++ drop_all i xs le j) ∙ sym (λ j. done ++ sifted cmp not (drop k ys) (drop_all i xs le j)) ∙ so_far

@@ -4,10 +4,9 @@ ghost use Rattle.std.specs.Ordering.{nat_cmp};
 ghost use Rattle.dg_values.specs.Ascending.{Ascends};
 ghost use Rattle.dg_uids.specs.Sets.{common};
 
-use crate::sides::{around, is_much_shorter};
+use crate::sides::around;
 use dg_values::{Mem, OutOfMemory};
 use std::alloc::Global;
-use std::cmp::Ordering;
 
 // The uids of both.
 pub(crate) fn intersection(alloc: Global, uids: &[u64], others: &[u64]) -> Mem<Vec<u64>>
@@ -15,12 +14,10 @@ pub(crate) fn intersection(alloc: Global, uids: &[u64], others: &[u64]) -> Mem<V
     requires others { Ascends nat_cmp others.now }
     ensures { IfOk result (λ list. list.items ≡ common uids.now others.now) }
 {
-    if is_much_shorter(uids, others) {
+    if uids.len() <= others.len() {
         found(alloc, uids, others)
-    } else if is_much_shorter(others, uids) {
-        found(alloc, others, uids)
     } else {
-        merged(alloc, uids, others)
+        found(alloc, others, uids)
     }
 }
 
@@ -37,31 +34,6 @@ fn found(alloc: Global, few: &[u64], many: &[u64]) -> Mem<Vec<u64>>
         rest = above;
         if is_there {
             list.push(*uid)?;
-        }
-    }
-    Ok(list)
-}
-
-// The same by going through both.
-fn merged(alloc: Global, uids: &[u64], others: &[u64]) -> Mem<Vec<u64>>
-    requires uids { Ascends nat_cmp uids.now }
-    requires others { Ascends nat_cmp others.now }
-    ensures { IfOk result (λ list. list.items ≡ common uids.now others.now) }
-{
-    let mut list = Vec::new(alloc);
-    let mut at = 0;
-    let mut beside = 0;
-    while at < uids.len() && beside < others.len() {
-        let uid = uids[at];
-        let other = others[beside];
-        match uid.cmp(&other) {
-            Ordering::Less => at += 1,
-            Ordering::Greater => beside += 1,
-            Ordering::Equal => {
-                list.push(uid)?;
-                at += 1;
-                beside += 1;
-            }
         }
     }
     Ok(list)

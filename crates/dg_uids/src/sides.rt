@@ -7,7 +7,7 @@ ghost use Rattle.dg_values.specs.Ascending.{Ascends, has, with_one, without_one}
 ghost use Rattle.dg_sets.specs.Placing.{StandsAt, BelongsAt};
 
 // A list that is this many times shorter is gone through alone, and the other one searched from place to place.
-const MUCH: usize = 16;
+const MUCH: usize = 8;
 
 // Whether searches in the second list, each from where the last one ended, are cheaper than going through it.
 pub(crate) fn is_much_shorter(few: &[u64], many: &[u64]) -> bool {

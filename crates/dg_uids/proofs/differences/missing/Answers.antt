@@ -1,11 +1,11 @@
-use Rattle.std.proofs.Common.{◌≡◌, ◌++◌, ◌∷◌, ◌+◌, Bool, get_or, drop, ap, subst, sym, ◌∙◌, arith}
+use Rattle.std.proofs.Common.{◌≡◌, ◌++◌, ◌∷◌, ◌+◌, get_or, drop, ap, subst, sym, ◌∙◌}
 use Rattle.std.specs.Prelude.{not}
 use Rattle.std.specs.Ordering.{nat_cmp}
 use Rattle.dg_values.specs.Ascending.{Ascends}
 use Rattle.dg_sets.proofs.MadeOrders.{nat_order}
 use Rattle.dg_sets.proofs.Merges.{left_from, ascends_left}
 use Rattle.dg_uids.specs.Sets.{lacking}
-use Rattle.dg_uids.proofs.Filters.{at_place, found_end_items}
+use Rattle.dg_uids.proofs.Filters.{at_place}
 use Rattle.dg_uids.proofs.Runs.{above_ascends, kept_one, left_one}
 use Rattle.dg_uids.proofs.differences.missing.Goals as goal
 use Rattle.dg_uids.proofs.differences.missing.Goals.{then-not-is_there+in_ok-push, else-not-is_there}

@@ -1,4 +1,4 @@
-use Rattle.std.proofs.Common.{◌≡◌, ◌≤◌, ◌+◌, ◌*◌, length, rules, arith}
+use Rattle.std.proofs.Common.{◌≤◌, length, rules, arith}
 use Rattle.std.proofs.lemmas.List.Sorted.{IsPartitionPoint-from_clause}
 use Rattle.std.specs.Prelude.{nat_lt}
 use Rattle.dg_uids.proofs.Galloping.{parted_step, point_of_all}
