@@ -71,16 +71,12 @@ module _ (takes : ℕ → Bool) (author sid : ℕ) (z : Zero) where
       looked_serves author sid None _ met w others.legal b.err (λ rest front back x y. begin_spent (machine_beside met (front ++ back)) sid spent (none_found sid (front ++ back) (both_others sid front back x y)) b.fault.1 b.fault.0)) m
 
   module _ (w : Zero) (legal : IsLegal w.groups w.history) (own : takes author ≡ true) (b : Begun) (pins : Vec Group Global) (m : Meets takes z w (BeginsAt author (Ok (b, pins)))) where
-    -- the graph that it sees
-    pub graph_met : List Triple
-    graph_met = graph_at m.met.history (next m.met.history) []
-
-    -- its pins hold it
-    pub pins_met : ArePinsOf b.start (arc_value b.schema) (arc_value b.owners) pins.items graph_met
+    -- its pins hold the graph that it sees
+    pub pins_met : ArePinsOf b.start (arc_value b.schema) (arc_value b.owners) pins.items (graph_at m.met.history (next m.met.history) [])
     pins_met =
-        subst (λ (t : ℕ). ArePinsOf t (arc_value b.schema) (arc_value b.owners) pins.items graph_met) (sym m.goes.start)
-        (subst (λ (ds : List PredDef). ArePinsOf (next m.met.history) ds (arc_value b.owners) pins.items graph_met) (sym m.goes.schema_is)
-        (subst (λ (ts : List Tablet). ArePinsOf (next m.met.history) (schema m.met.history) ts pins.items graph_met) (sym m.goes.owners_are) m.goes.pins))
+        subst (λ (t : ℕ). ArePinsOf t (arc_value b.schema) (arc_value b.owners) pins.items (graph_at m.met.history (next m.met.history) [])) (sym m.goes.start)
+        (subst (λ (ds : List PredDef). ArePinsOf (next m.met.history) ds (arc_value b.owners) pins.items (graph_at m.met.history (next m.met.history) [])) (sym m.goes.schema_is)
+        (subst (λ (ts : List Tablet). ArePinsOf (next m.met.history) (schema m.met.history) ts pins.items (graph_at m.met.history (next m.met.history) [])) (sym m.goes.owners_are) m.goes.pins))
 
     opened : IsOpen w.history author (opened_by author m.met.history)
     opened = opened_open m.met w author m.others.legal m.goes.ok legal
@@ -106,12 +102,12 @@ module _ (takes : ℕ → Bool) (author sid : ℕ) (z : Zero) where
         }
 
     -- the transaction is open
-    module _ (txn : Transaction) (made : txn ≡ record { start = b.start; schema = arc_value b.schema; base = graph_met; own = []; author = author }) where
+    module _ (txn : Transaction) (made : txn ≡ record { start = b.start; schema = arc_value b.schema; base = (graph_at m.met.history (next m.met.history) []); own = []; author = author }) where
       txn_is : txn ≡ opened_by author m.met.history
       txn_is =
           let start_is = m.goes.start in
           let schema_is = m.goes.schema_is in
-          made ∙ (λ i. record { start = start_is i; schema = schema_is i; base = graph_met; own = []; author = author })
+          made ∙ (λ i. record { start = start_is i; schema = schema_is i; base = (graph_at m.met.history (next m.met.history) []); own = []; author = author })
 
       pub begun_open : (v : Zero) → v ≡ w → IsOpen v.history author txn
       begun_open v same = subst (λ (y : Zero). IsOpen y.history author txn) (sym same) (subst (IsOpen w.history author) (sym txn_is) opened)

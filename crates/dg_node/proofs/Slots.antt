@@ -260,18 +260,13 @@ module _ (z : Zero) (slots : List Slot) (sid place : ℕ) (k : IsKept z slots) (
   some_then : (txn : Transaction) × (a.it.txn ≡ Some txn)
   some_then = full_slot a.it a.it.txn refl (all_around (λ (t : Slot). IsSome t.txn) a.before a.after a.it (subst (λ (l : List Slot). AllByRecursion (λ (t : Slot). IsSome t.txn) l) a.whole k.full)).1
 
-  -- its transaction
-  pub txn_at : Transaction
-  txn_at = some_then.0
-
-  pub txn_is : a.it.txn ≡ Some txn_at
-  txn_is = some_then.1
-
-  pub whole_at : slots ≡ a.before ++ slot_of sid (Some txn_at) ∷ a.after
-  whole_at =
+  -- its transaction, and the slots around it
+  pub slot_at : (txn : Transaction) × (a.it.txn ≡ Some txn) × (slots ≡ a.before ++ slot_of sid (Some txn) ∷ a.after)
+  slot_at =
+      let found = some_then in
       let number = a.is in
-      let own = txn_is in
-      a.whole ∙ (λ i. a.before ++ slot_of (number i) (own i) ∷ a.after)
+      let own = found.1 in
+      (found.0, own, a.whole ∙ (λ i. a.before ++ slot_of (number i) (own i) ∷ a.after))
 
 -- what is left of the slots
 pub left_is : (before after : List Slot) (sid : ℕ) (new : Option Transaction) → unless_open (before ++ slot_of sid new ∷ after) (length before) (slice_get (before ++ slot_of sid new ∷ after) (length before)) ≡ left_of before after sid new

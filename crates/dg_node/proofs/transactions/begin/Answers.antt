@@ -1,7 +1,7 @@
 use Rattle.std.proofs.Common.{◌≡◌, ℕ, true, Option, Some, None, Result, Ok, Err, refl, subst, sym, ◌∙◌}
 use Rattle.dg_zero.specs.States.{Zero}
 use Rattle.dg_node.specs.Clusters.{Meets, BeginsAt}
-use Rattle.dg_node.proofs.Beginning.{none_is, already_serves, spares_none, spares_look, spent_meets, graph_met, pins_met, start_drawn, start_active, spares_drawn, begun_open, begun_meets}
+use Rattle.dg_node.proofs.Beginning.{none_is, already_serves, spares_none, spares_look, spent_meets, pins_met, start_drawn, start_active, spares_drawn, begun_open, begun_meets}
 use Rattle.dg_node.proofs.LeadLemmas.{on_any}
 use Rattle.dg_node.proofs.transactions.begin.Goals as goal
 
