@@ -30,7 +30,8 @@ use Rattle.dg_node.specs.Steps.{MayRaise}
 use Rattle.dg_node.proofs.MutationLemmas.{added_none, unless_memory}
 use Rattle.dg_node.proofs.Mutating.{serves_found, serves_met, raises_by, spent_sees, leased_serves, leased_spares, with_own_open, by_checked, text_found, no_text_found}
 use Rattle.dg_node.proofs.Opens.{open_met, open_then, seen_lawful}
-use Rattle.dg_node.proofs.Serving.{meets_here, meets_by, serves_nothing, looked_serves, finds_own}
+use Rattle.dg_node.proofs.Alone.{meets_here}
+use Rattle.dg_node.proofs.Serving.{meets_by, serves_nothing, looked_serves, finds_own}
 
 abbrev Pair : Type 0
 Pair = Reply × Machine
