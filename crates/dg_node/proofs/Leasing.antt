@@ -1,14 +1,13 @@
 -- What the functions of a mutation make of the clauses of their calls.
-use Rattle.std.proofs.Common.{◌≡◌, ◌≢◌, ℕ, Bool, true, false, List, [], Option, Some, None, inl, refl, subst, sym, ◌∙◌, length}
+use Rattle.std.proofs.Common.{◌≡◌, ◌≢◌, ℕ, Bool, true, false, List, [], Option, Some, None, refl, subst, sym, ◌∙◌, length}
 use Rattle.std.specs.Prelude.{◌==◌, Result, Ok, Err, IfOk, OnOk, OnErr}
 use Rattle.std.specs.Str.Lossy.{utf8_valid_len}
 use Rattle.dg_edges.specs.declared.edge.Edge.{Edge}
 use Rattle.dg_edges.specs.declared.fault.EdgeFault.{EdgeFault}
 use Rattle.dg_edges.specs.Deltas.{AreFitting}
-use Rattle.dg_edges.specs.Resolving.{Resolves, IsResolved, IsAnswer}
+use Rattle.dg_edges.specs.Resolving.{Resolves, IsResolved}
 use Rattle.dg_edges.specs.Expanding.{new_names, top_uid, expanded}
 use Rattle.dg_edges.proofs.ExpandLaws.{expanded_fits}
-use Rattle.dg_nquad.specs.declared.fault.NquadFault.{NquadFault}
 use Rattle.dg_nquad.specs.declared.mutation.Statement.{Statement}
 use Rattle.dg_nquad.specs.Whole.{mutation}
 use Rattle.dg_wire.specs.declared.refusal.Refusal.TheVariants as refusals
@@ -18,7 +17,6 @@ use Rattle.dg_zero.specs.declared.entry.Event.TheVariants.{Lease, Look}
 use Rattle.dg_zero.specs.Legal.{IsLegal}
 use Rattle.dg_zero.specs.States.{Zero, and_then}
 use Rattle.dg_txn.specs.Own.{Transaction, graph}
-use Rattle.dg_node.specs.declared.cluster.ClusterFault.{ClusterFault}
 use Rattle.dg_node.specs.declared.cluster.ClusterFault.TheVariants as faults
 use Rattle.dg_node.specs.Clusters.{Meets, LeasesAt}
 use Rattle.dg_node.specs.Machine.{Machine, Session, session_of}
@@ -27,7 +25,6 @@ use Rattle.dg_node.specs.NewUids.{uids_text}
 use Rattle.dg_node.specs.Sessions.{IsOpen, session_by, with_own, own_session, between, Serves, Sees}
 use Rattle.dg_node.specs.State.{machine_beside}
 use Rattle.dg_node.specs.Steps.{MayRaise}
-use Rattle.dg_node.proofs.MutationLemmas.{added_none, unless_memory}
 use Rattle.dg_node.proofs.Mutating.{serves_found, serves_met, raises_by, spent_sees, leased_serves, leased_spares, with_own_open, by_checked, text_found, no_text_found}
 use Rattle.dg_node.proofs.Opens.{open_met, open_then, seen_lawful}
 use Rattle.dg_node.proofs.Alone.{meets_here}
@@ -57,18 +54,6 @@ module _ (takes : ℕ → Bool) (author sid : ℕ) (txn : Transaction) (z : Zero
 
   pub stays_here : (step : Machine → Machine → Type 0) → Sees sid (Some txn) step z → Meets takes z z (Serves author sid (Some txn) (Some txn) step)
   stays_here step sees = meets_here takes z z (Serves author sid (Some txn) (Some txn) step) l (serves_nothing author sid (Some txn) step z (λ rest. sees))
-
-  -- memory was wanting, before anything was leased
-  pub wants_here : (outcome : Machine → Reply → Machine → Type 0) → Meets takes z z (Serves author sid (Some txn) (Some txn) (MayRaise outcome))
-  wants_here outcome = stays_here (MayRaise outcome) (λ front back a b. inl refl)
-
-  -- without statements
-  pub none_added : (edges : List Edge) (body : List ℕ) → edges ≡ [] → body ≡ uids_text 0 [] → Meets takes z z (Serves author sid (Some txn) (Some txn) (λ m n. Adds sid txn edges m (replies.Mutate sid body) n))
-  none_added edges body none is =
-      let back_is = sym is in
-      stays_here (λ m n. Adds sid txn edges m (replies.Mutate sid body) n) (λ front back a b.
-      let m = machine_beside z (between front (own_session sid (Some txn)) back) in
-      added_none m (session_by sid txn) edges none ∙ (λ i. (replies.Mutate sid (back_is i), m)))
 
   -- ---- what was checked
 

@@ -2,8 +2,7 @@ use Rattle.std.proofs.Common.{◌≡◌, ◌≢◌, List, [], length, ap, sym, �
 use Rattle.std.proofs.lemmas.Bool.{true≢false}
 use Rattle.dg_edges.specs.declared.edge.Edge.{Edge}
 use Rattle.dg_edges.specs.Expanding.{new_names}
-use Rattle.dg_node.specs.NewUids.{uids_text}
-use Rattle.dg_node.proofs.Leasing.{checked_fits, none_added, wants_here, spent_leased, spent_open, ok_leased, err_leased, leased_open}
+use Rattle.dg_node.proofs.Leasing.{checked_fits, spent_leased, spent_open, ok_leased, err_leased, leased_open}
 use Rattle.dg_node.proofs.mutations.lease.Goals as goal
 
 pub take-requires-clause-fitting : goal.take-requires-clause-fitting

@@ -1,4 +1,4 @@
-use Rattle.std.proofs.Common.{◌≡◌, List, Ok, Err, ap, ◌∙◌, subst}
+use Rattle.std.proofs.Common.{List, Ok, Err, ap, ◌∙◌, subst}
 use Rattle.std.specs.Prelude.{Result}
 use Rattle.dg_edges.specs.declared.edge.Edge.{Edge}
 use Rattle.dg_edges.specs.declared.fault.EdgeFault.{EdgeFault}
