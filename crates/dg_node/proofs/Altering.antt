@@ -1,8 +1,7 @@
 -- What an alter makes of the history and of the machine, whose sessions have the active starts.
-use Rattle.std.proofs.Common.{◌≡◌, ℕ, ◌+◌, ◌-◌, ◌<◌, ◌≤◌, ◌^◌, Bool, true, false, List, [], ◌∷◌, ◌++◌, Option, Some, None, refl, ap, subst, sym, ◌∙◌, arith}
-use Rattle.std.specs.Prelude.{◌==◌, ◌||◌, fold, map, min}
+use Rattle.std.proofs.Common.{◌≡◌, ℕ, ◌+◌, ◌-◌, ◌<◌, ◌≤◌, ◌^◌, Bool, true, false, List, [], ◌∷◌, ◌++◌, Option, Some, None, Ok, Err, refl, ap, subst, sym, ◌∙◌, arith}
+use Rattle.std.specs.Prelude.{fold, map, min, Result, IfOk}
 use Rattle.std.specs.List.{AllByRecursion}
-use Rattle.std.proofs.lemmas.Grind.{common_steps}
 use Rattle.dg_schema.specs.declared.definition.PredDef.{PredDef}
 use Rattle.dg_keys.specs.declared.record.Part.{Part}
 use Rattle.dg_oracle.specs.Commits as oracle
@@ -16,6 +15,9 @@ use Rattle.dg_zero.specs.Places.{tablets}
 use Rattle.dg_zero.specs.States.{Zero, and_then, alter_of, first_held, IsLeastStart}
 use Rattle.dg_zero.specs.Worlds.{World, world, world_at, schema}
 use Rattle.dg_zero.proofs.LawsOfHistories.{line_stays_below, present_is_last}
+use Rattle.dg_node.specs.declared.cluster.ClusterFault.{ClusterFault}
+use Rattle.dg_node.specs.declared.cluster.ClusterFault.TheVariants as faults
+use Rattle.dg_node.specs.Clusters.{Meets, AltersAt}
 use Rattle.dg_node.specs.Alters.{least_start, first_with_data, present_schema, present_graph, altered, declared}
 use Rattle.dg_node.specs.Graphs.{committed_at}
 use Rattle.dg_node.specs.Machine.{Machine, Session}
@@ -23,10 +25,11 @@ use Rattle.dg_node.specs.Owning.{AreAtRest}
 use Rattle.dg_node.specs.Schemas as machines
 use Rattle.dg_node.specs.Sessions.{Alters}
 use Rattle.dg_node.specs.State.{alters, asked_by, machine_beside}
+use Rattle.dg_node.proofs.Alone.{meets_here}
 use Rattle.dg_node.proofs.AlterLemmas.{first_is, held_nowhere}
 use Rattle.dg_node.proofs.MachineLemmas.{schemas_are}
 use Rattle.dg_node.proofs.ReplyLemmas.{alter_pending, alter_has_data, altered_is, alter_spent, declared_is}
-use Rattle.dg_node.proofs.Serving.{stands_beside, adds_nothing, adds_one, active_same, look_beside}
+use Rattle.dg_node.proofs.Serving.{meets_by, stands_beside, adds_nothing, adds_one, active_same, look_beside}
 use Rattle.dg_node.proofs.Standing.{is_beside}
 use Rattle.dg_node.proofs.StandLemmas.{stand_alter}
 
@@ -109,3 +112,39 @@ module _ (author : ℕ) (z : Zero) (l : IsLegal z.groups z.history) (newer : Lis
         ∙ ap (λ (n : Machine). (replies.Alter start ts, n))
         (is_beside (and_then z author (alter_of z newer parts)) ss _ (stand_alter z ss m (stands_beside z ss l) author newer parts) ∙ ap (λ (y : Zero). machine_beside y ss) (sym then)));
   }
+
+-- ---- the same, whatever others append before it
+
+module _ (takes : ℕ → Bool) (author slip : ℕ) (own : slip ≡ author) (z w : Zero) (newer : List PredDef) where
+  -- by what the cluster says, in the author's name
+  altered_by : (r : Result (ℕ × ℕ) ClusterFault) (step : Machine → Machine → Type 0) → ((met : Zero) → IsLegal met.groups met.history → AltersAt author newer r met w → Alters author step met w) → Meets takes z w (AltersAt slip newer r) → Meets takes z w (Alters author step)
+  altered_by r step f m =
+      meets_by takes z w (AltersAt slip newer r) (Alters author step) (λ met others a. f met others.legal (subst (λ (s : ℕ). AltersAt s newer r met w) own a)) m
+
+  pub done_meets : (start ts : ℕ) → Meets takes z w (AltersAt slip newer (Ok (start, ts))) → Meets takes z w (Alters author (λ m n. ◌≡◌ {A = Pair} (altered m newer) (replies.Alter start ts, n)))
+  done_meets start ts = altered_by (Ok (start, ts)) (λ m n. ◌≡◌ {A = Pair} (altered m newer) (replies.Alter start ts, n)) (λ met l a. done_alters author met l newer start ts a.ok.0 w a.ok.2 a.none_active a.no_data a.drawn.0 a.drawn.1 a.not_spent)
+
+  pub pending_meets : (start : ℕ) → Meets takes z w (AltersAt slip newer (Err (faults.Pending start))) → Meets takes z w (Alters author (λ m n. ◌≡◌ {A = Pair} (altered m newer) (replies.Refused (refusals.Pending start), n)))
+  pending_meets start = altered_by (Err (faults.Pending start)) (λ m n. ◌≡◌ {A = Pair} (altered m newer) (replies.Refused (refusals.Pending start), n)) (λ met l a. pending_alters author met l newer start w a.err a.fault)
+
+  pub data_meets : (pred : List ℕ) → Meets takes z w (AltersAt slip newer (Err (faults.HasData pred))) → Meets takes z w (Alters author (λ m n. ◌≡◌ {A = Pair} (altered m newer) (replies.Refused (refusals.HasData pred), n)))
+  data_meets pred = altered_by (Err (faults.HasData pred)) (λ m n. ◌≡◌ {A = Pair} (altered m newer) (replies.Refused (refusals.HasData pred), n)) (λ met l a. data_alters author met l newer pred w a.err a.fault.0 a.fault.2)
+
+  pub moving_meets : (pred : List ℕ) → Meets takes z w (AltersAt slip newer (Err (faults.Moving pred))) → Meets takes z w (Alters author (λ m n. ◌≡◌ {A = Pair} (altered m newer) (replies.Refused (refusals.Moving pred), n)))
+  moving_meets pred = altered_by (Err (faults.Moving pred)) (λ m n. ◌≡◌ {A = Pair} (altered m newer) (replies.Refused (refusals.Moving pred), n)) (λ met l a. moving_alters author met l newer pred w a.err a.fault.1)
+
+  pub spent_meets : (spent : ℕ) → Meets takes z w (AltersAt slip newer (Err (faults.TimestampsSpent spent))) → Meets takes z w (Alters author (λ m n. ◌≡◌ {A = Pair} (altered m newer) (replies.Refused (refusals.TimestampsSpent spent), n)))
+  spent_meets spent = altered_by (Err (faults.TimestampsSpent spent)) (λ m n. ◌≡◌ {A = Pair} (altered m newer) (replies.Refused (refusals.TimestampsSpent spent), n)) (λ met l a. spent_alters author met l newer spent w a.err a.fault.0 a.fault.2 a.fault.3 a.fault.4)
+
+  pub wanting_meets : Meets takes z w (AltersAt slip newer (Err faults.OutOfMemory)) → Meets takes z w (Alters author (λ m n. n ≡ m))
+  wanting_meets = altered_by (Err faults.OutOfMemory) (λ m n. n ≡ m) (λ met l a. alters_look author (λ m n. n ≡ m) met w l a.err (λ rest ss e. refl))
+
+-- ---- where no call was made
+
+pub unasked_meets : (takes : ℕ → Bool) (author : ℕ) (step : Machine → Machine → Type 0) (z : Zero) → IsLegal z.groups z.history → ((m : Machine) → step m m) → Meets takes z z (Alters author step)
+unasked_meets takes author step z legal f = meets_here takes z z (Alters author step) legal (alters_nothing author step z f)
+
+-- what is read of a text
+pub said_meets : {E : Type 0} (takes : ℕ → Bool) (author : ℕ) (z w : Zero) (r : Result Reply E) (one other : Reply → Machine → Machine → Type 0) → ((p : Reply) (m n : Machine) → one p m n → other p m n) → IfOk r (λ p. Meets takes z w (Alters author (one p))) → IfOk r (λ p. Meets takes z w (Alters author (other p)))
+said_meets takes author z w (Ok p) one other f m = meets_by takes z w (Alters author (one p)) (Alters author (other p)) (λ met others a. alters_by author (one p) (other p) met w (f p) a) m
+said_meets takes author z w (Err x) one other f m = tt

@@ -1,23 +1,33 @@
 -- The table of sessions: what a request of one of them leaves of all.
-use Rattle.std.proofs.Common.{◌≡◌, ◌≢◌, ℕ, ◌+◌, ◌<◌, Bool, true, false, List, [], ◌∷◌, ◌++◌, Option, Some, None, length, set, refl, ap, subst, sym, ◌∙◌, arith, append_assoc}
-use Rattle.std.specs.Prelude.{◌==◌, ◌&&◌, ◌||◌, map, flat_map, position, IsSome}
-use Rattle.std.specs.List.{AllByRecursion, remove, list_any}
+use Rattle.std.proofs.Common.{◌≡◌, ◌≢◌, ℕ, ◌+◌, Bool, true, false, cond, List, [], ◌∷◌, ◌++◌, Option, Some, None, is_some, length, set, refl, ap, subst, sym, ◌∙◌, arith, append_assoc}
+use Rattle.std.specs.Prelude.{◌==◌, ◌&&◌, ◌||◌, map, flat_map, slice_get, IsSome}
+use Rattle.std.specs.List.{AllByRecursion, remove}
 use Rattle.std.proofs.lemmas.Grind.{common_steps, flat_map-append}
 use Rattle.std.proofs.lemmas.List.{append-nil, map-append}
 use Rattle.dg_zero.specs.declared.entry.Entry.{Entry}
-use Rattle.dg_zero.specs.Counters.{Started, next, active, is_active_of}
+use Rattle.dg_zero.specs.Counters.{Started, active, is_active_of}
 use Rattle.dg_zero.specs.Legal.{IsLegal}
 use Rattle.dg_zero.specs.States.{Zero}
 use Rattle.dg_txn.specs.Own.{Transaction}
 use Rattle.dg_node.specs.declared.engine.Slot.{Slot}
-use Rattle.dg_node.specs.Kept.{Held, Opened, opened_by, opened_of, AreApart, IsKept}
-use Rattle.dg_node.specs.Machine.{Machine, Session}
+use Rattle.dg_node.specs.Held.{Held}
+use Rattle.dg_node.specs.Kept.{opened_in, opened_of, unless_open, with_opened, AreApart, IsKept}
+use Rattle.dg_node.specs.Machine.{Machine, Session, session_of}
 use Rattle.dg_node.specs.Owning.{AreAtRest}
-use Rattle.dg_node.specs.Sessions.{IsOpen, IsSession, own_session, own_start, between, placed, HaveOthers, Adds, Serves}
+use Rattle.dg_node.specs.Sessions.{IsOpen, IsSession, session_by, own_session, own_start, between, placed, HaveOthers, Adds, Serves, Sees}
 use Rattle.dg_node.specs.State.{session_from, machine_of, machine_beside, Leads}
+use Rattle.dg_node.proofs.Between.{found_between, none_found}
 use Rattle.dg_node.proofs.Opens.{open_longer}
 use Rattle.dg_node.proofs.MachineLemmas.{all_from}
-use Rattle.dg_node.proofs.OneAmong.{Around, all_around, all_joined, apart_without, apart_with, apart_push}
+use Rattle.dg_node.proofs.OneAmong.{Around, removed_at, get_at, set_is, all_around, all_joined, apart_without, apart_with, apart_push}
+
+-- a slot
+abbrev pub slot_of : ℕ → Option Transaction → Slot
+slot_of sid txn = record { sid = sid; txn = txn }
+
+-- the engine of a history and its slots
+abbrev pub held_by : Zero → List Slot → Held
+held_by z slots = record { zero = z; opened = opened_of slots }
 
 -- ---- slots as sessions and as starts
 
@@ -27,40 +37,37 @@ sessions_of slots = flat_map (λ (s : Slot). own_session s.sid s.txn) slots
 abbrev pub starts_in : List Slot → List Started
 starts_in slots = flat_map (λ (s : Slot). own_start 0 s.txn) slots
 
-one_session : (s : Slot) → map session_from (opened_by s) ≡ own_session s.sid s.txn
-one_session s = by s.txn
-  where
-    by : (t : Option Transaction) → map session_from (opened_by (record { sid = s.sid; txn = t })) ≡ own_session s.sid t
-    by None = refl
-    by (Some txn) = refl
+one_session : (sid : ℕ) (t : Option Transaction) → map session_from (opened_in sid t) ≡ own_session sid t
+one_session sid None = refl
+one_session sid (Some txn) = refl
 
 -- the machine's sessions are those of the slots
 pub sessions_are : (slots : List Slot) → map session_from (opened_of slots) ≡ sessions_of slots
 sessions_are [] = refl
-sessions_are (s ∷ slots) = map-append session_from (opened_by s) (opened_of slots) ∙ (λ i. one_session s i ++ sessions_are slots i)
+sessions_are (s ∷ slots) = map-append session_from (opened_in s.sid s.txn) (opened_of slots) ∙ (λ i. one_session s.sid s.txn i ++ sessions_are slots i)
 
-pub sessions_around : (before after : List Slot) (s : Slot) → sessions_of (before ++ s ∷ after) ≡ between (sessions_of before) (own_session s.sid s.txn) (sessions_of after)
+sessions_around : (before after : List Slot) (s : Slot) → sessions_of (before ++ s ∷ after) ≡ between (sessions_of before) (own_session s.sid s.txn) (sessions_of after)
 sessions_around before after s = flat_map-append (λ (t : Slot). own_session t.sid t.txn) before (s ∷ after)
 
-pub sessions_joined : (before after : List Slot) → sessions_of (before ++ after) ≡ sessions_of before ++ sessions_of after
+sessions_joined : (before after : List Slot) → sessions_of (before ++ after) ≡ sessions_of before ++ sessions_of after
 sessions_joined before after = flat_map-append (λ (t : Slot). own_session t.sid t.txn) before after
 
-pub starts_around : (before after : List Slot) (s : Slot) → starts_in (before ++ s ∷ after) ≡ between (starts_in before) (own_start 0 s.txn) (starts_in after)
+starts_around : (before after : List Slot) (s : Slot) → starts_in (before ++ s ∷ after) ≡ between (starts_in before) (own_start 0 s.txn) (starts_in after)
 starts_around before after s = flat_map-append (λ (t : Slot). own_start 0 t.txn) before (s ∷ after)
 
-pub starts_joined : (before after : List Slot) → starts_in (before ++ after) ≡ starts_in before ++ starts_in after
+starts_joined : (before after : List Slot) → starts_in (before ++ after) ≡ starts_in before ++ starts_in after
 starts_joined before after = flat_map-append (λ (t : Slot). own_start 0 t.txn) before after
+
+own_others : (sid other : ℕ) (t : Option Transaction) → other ≢ sid → HaveOthers sid (own_session other t)
+own_others sid other None ne = tt
+own_others sid other (Some txn) ne = (ne, tt)
 
 pub others_have : (sid : ℕ) (slots : List Slot) → AllByRecursion (λ (s : Slot). s.sid ≢ sid) slots → HaveOthers sid (sessions_of slots)
 others_have sid [] a = tt
-others_have sid (s ∷ slots) a = all_joined (λ (t : Session). t.sid ≢ sid) (own_session s.sid s.txn) (sessions_of slots) (one s.txn) (others_have sid slots a.1)
-  where
-    one : (t : Option Transaction) → HaveOthers sid (own_session s.sid t)
-    one None = tt
-    one (Some txn) = (a.0, tt)
+others_have sid (s ∷ slots) a = all_joined (λ (t : Session). t.sid ≢ sid) (own_session s.sid s.txn) (sessions_of slots) (own_others sid s.sid s.txn a.0) (others_have sid slots a.1)
 
 -- those around one have other numbers
-pub apart_around : (before after : List Slot) (s : Slot) → AreApart (λ (t : Slot). t.sid) (before ++ s ∷ after) → AllByRecursion (λ (t : Slot). t.sid ≢ s.sid) before × AllByRecursion (λ (t : Slot). t.sid ≢ s.sid) after
+apart_around : (before after : List Slot) (s : Slot) → AreApart (λ (t : Slot). t.sid) (before ++ s ∷ after) → AllByRecursion (λ (t : Slot). t.sid ≢ s.sid) before × AllByRecursion (λ (t : Slot). t.sid ≢ s.sid) after
 apart_around [] after s a = (tt, a.0)
 apart_around (b ∷ before) after s a =
     let r = all_around (λ (t : Slot). t.sid ≢ b.sid) before after s a.0 in
@@ -69,28 +76,16 @@ apart_around (b ∷ before) after s a =
 
 -- ---- their starts are active
 
-or_left : (v w : Bool) → v ≡ true → (v || w) ≡ true
-or_left true w e = refl
-or_left false w e = absurd (cc)
-
 or_right : (v w : Bool) → w ≡ true → (v || w) ≡ true
 or_right true w e = refl
 or_right false w e = e
 
-pub active_front : (xs ys : List Started) (start author : ℕ) → is_active_of xs start author ≡ true → is_active_of (xs ++ ys) start author ≡ true
-active_front [] ys start author e = absurd (cc)
-active_front (x ∷ xs) ys start author e = by ((x.start == start) && (x.author == author)) e
-  where
-    by : (v : Bool) → (v || is_active_of xs start author) ≡ true → (v || is_active_of (xs ++ ys) start author) ≡ true
-    by true e = refl
-    by false e = active_front xs ys start author e
-
-pub active_back : (xs ys : List Started) (start author : ℕ) → is_active_of ys start author ≡ true → is_active_of (xs ++ ys) start author ≡ true
+active_back : (xs ys : List Started) (start author : ℕ) → is_active_of ys start author ≡ true → is_active_of (xs ++ ys) start author ≡ true
 active_back [] ys start author e = e
 active_back (x ∷ xs) ys start author e = or_right ((x.start == start) && (x.author == author)) (is_active_of (xs ++ ys) start author) (active_back xs ys start author e)
 
 -- a session's start is active, where it has one
-abbrev pub IsActiveIn : List Started → Option Transaction → Type 0
+abbrev IsActiveIn : List Started → Option Transaction → Type 0
 IsActiveIn starts None = Unit {0}
 IsActiveIn starts (Some txn) = is_active_of starts txn.start 0 ≡ true
 
@@ -124,159 +119,163 @@ module _ (z w : Zero) (adds : Adds 0 z w) (legal : IsLegal w.groups w.history) w
   each_longer [] each active = tt
   each_longer (s ∷ slots) each active = (longer s.txn each.0 active.0, each_longer slots each.1 active.1)
 
+  actives : (slots : List Slot) → active w.history ≡ starts_in slots → AllByRecursion (λ (s : Slot). IsActiveIn (active w.history) s.txn) slots
+  actives slots now = subst (λ (ts : List Started). AllByRecursion (λ (s : Slot). IsActiveIn ts s.txn) slots) (sym now) (all_active slots)
+
   -- all slots stay
   pub all_kept : (slots : List Slot) → IsKept z slots → active w.history ≡ active z.history → IsKept w slots
-  all_kept slots k same =
-      let now : active w.history ≡ starts_in slots = same ∙ k.active_are in
-      record {
-        legal = legal;
-        active_are = now;
-        apart = k.apart;
-        full = k.full;
-        each = each_longer slots k.each (subst (λ (ts : List Started). AllByRecursion (λ (s : Slot). IsActiveIn ts s.txn) slots) (sym now) (all_active slots));
-      }
+  all_kept slots k same = record {
+    legal = legal;
+    active_are = same ∙ k.active_are;
+    apart = k.apart;
+    full = k.full;
+    each = each_longer slots k.each (actives slots (same ∙ k.active_are));
+  }
+
+-- the machine of the engine
+pub machine_is : (z : Zero) (slots : List Slot) → machine_of (held_by z slots) ≡ machine_beside z (sessions_of slots)
+machine_is z slots = ap (machine_beside z) (sessions_are slots)
+
+-- a step beside the slots leads from engine to engine
+pub leads_beside : (z w : Zero) (slots later : List Slot) (step : Machine → Machine → Type 0) (ss ps : List Session) → sessions_of slots ≡ ss → sessions_of later ≡ ps → step (machine_beside z ss) (machine_beside w ps) → Leads (held_by z slots) step (held_by w later)
+leads_beside z w slots later step ss ps before after s = record {
+  leads = subst (λ (m : Machine). step m (machine_of (held_by w later))) (sym (machine_is z slots ∙ ap (machine_beside z) before))
+      (subst (λ (n : Machine). step (machine_beside z ss) n) (sym (machine_is w later ∙ ap (machine_beside w) after)) s);
+}
 
 -- ---- a request of the session in a slot
 
-module _ (z w : Zero) (slots before after : List Slot) (s : Slot) (k : IsKept z slots) (e : slots ≡ before ++ s ∷ after) where
-  around_apart : AllByRecursion (λ (t : Slot). t.sid ≢ s.sid) before × AllByRecursion (λ (t : Slot). t.sid ≢ s.sid) after
-  around_apart = apart_around before after s (subst (λ (l : List Slot). AreApart (λ (t : Slot). t.sid) l) e k.apart)
+-- the slots around one, and it with what its session is then, where that has a transaction
+abbrev pub left_of : List Slot → List Slot → ℕ → Option Transaction → List Slot
+left_of before after sid None = before ++ after
+left_of before after sid (Some txn) = before ++ slot_of sid (Some txn) ∷ after
 
-  starts_then : active z.history ≡ between (starts_in before) (own_start 0 s.txn) (starts_in after)
-  starts_then = k.active_are ∙ (ap starts_in e ∙ starts_around before after s)
+module _ (z : Zero) (slots before after : List Slot) (sid : ℕ) (txn : Transaction) (k : IsKept z slots) (e : slots ≡ before ++ slot_of sid (Some txn) ∷ after) where
+  apart_then : AreApart (λ (t : Slot). t.sid) (before ++ slot_of sid (Some txn) ∷ after)
+  apart_then = subst (λ (l : List Slot). AreApart (λ (t : Slot). t.sid) l) e k.apart
 
-  pub machine_then : machine_of (record { zero = z; opened = opened_of slots }) ≡ machine_beside z (between (sessions_of before) (own_session s.sid s.txn) (sessions_of after))
-  machine_then = ap (machine_beside z) (sessions_are slots ∙ (ap sessions_of e ∙ sessions_around before after s))
+  others_before : HaveOthers sid (sessions_of before)
+  others_before = others_have sid before (apart_around before after (slot_of sid (Some txn)) apart_then).0
 
-  -- the session is as it stands in the invariant
-  pub session_then : IsSession z 0 s.txn
-  session_then = (all_around (λ (t : Slot). IsSession z 0 t.txn) before after s (subst (λ (l : List Slot). AllByRecursion (λ (t : Slot). IsSession z 0 t.txn) l) e k.each)).1
+  others_after : HaveOthers sid (sessions_of after)
+  others_after = others_have sid after (apart_around before after (slot_of sid (Some txn)) apart_then).1
 
-  pub full_then : IsSome s.txn
-  full_then = (all_around (λ (t : Slot). IsSome t.txn) before after s (subst (λ (l : List Slot). AllByRecursion (λ (t : Slot). IsSome t.txn) l) e k.full)).1
+  starts_then : active z.history ≡ between (starts_in before) (own_start 0 (Some txn)) (starts_in after)
+  starts_then = k.active_are ∙ (ap starts_in e ∙ starts_around before after (slot_of sid (Some txn)))
 
-  -- the slot with what the session is then
-  abbrev pub slot_with : Option Transaction → Slot
-  slot_with new = record { sid = s.sid; txn = new }
+  sessions_then : sessions_of slots ≡ between (sessions_of before) (own_session sid (Some txn)) (sessions_of after)
+  sessions_then = ap sessions_of e ∙ sessions_around before after (slot_of sid (Some txn))
 
-  module _ (new : Option Transaction) (step : Machine → Machine → Type 0) (serves : Serves 0 s.sid s.txn new step z w) (legal : IsLegal w.groups w.history) (session : IsSession w 0 new) where
-    each_then = all_around (λ (t : Slot). IsSession z 0 t.txn) before after s (subst (λ (l : List Slot). AllByRecursion (λ (t : Slot). IsSession z 0 t.txn) l) e k.each)
+  each_then : AllByRecursion (λ (t : Slot). IsSession z 0 t.txn) before × IsOpen z.history 0 txn × AllByRecursion (λ (t : Slot). IsSession z 0 t.txn) after
+  each_then = all_around (λ (t : Slot). IsSession z 0 t.txn) before after (slot_of sid (Some txn)) (subst (λ (l : List Slot). AllByRecursion (λ (t : Slot). IsSession z 0 t.txn) l) e k.each)
 
-    -- it is still open
-    pub changed_kept : IsSome new → IsKept w (before ++ slot_with new ∷ after)
-    changed_kept there = by s.txn new full_then there refl refl
-      where
-        by : (old now : Option Transaction) → IsSome old → IsSome now → old ≡ s.txn → now ≡ new → IsKept w (before ++ slot_with new ∷ after)
-        by None now old_there now_there old_is now_is = absurd old_there
-        by (Some a) None old_there now_there old_is now_is = absurd now_there
-        by (Some a) (Some b) old_there now_there old_is now_is =
-            let placed_is : placed (own_start 0) s.txn new (starts_in before) (starts_in after) ≡ between (starts_in before) (own_start 0 new) (starts_in after) =
-            subst (λ (o : Option Transaction). placed (own_start 0) o new (starts_in before) (starts_in after) ≡ between (starts_in before) (own_start 0 new) (starts_in after)) old_is
-            (subst (λ (o : Option Transaction). placed (own_start 0) (Some a) o (starts_in before) (starts_in after) ≡ between (starts_in before) (own_start 0 o) (starts_in after)) now_is refl) in
-            let now_active : active w.history ≡ starts_in (before ++ slot_with new ∷ after) = serves.starts (starts_in before) (starts_in after) starts_then ∙ (placed_is ∙ sym (starts_around before after (slot_with new))) in
-            let actives = all_around (λ (t : Slot). IsActiveIn (active w.history) t.txn) before after (slot_with new) (subst (λ (ts : List Started). AllByRecursion (λ (t : Slot). IsActiveIn ts t.txn) (before ++ slot_with new ∷ after)) (sym now_active) (all_active (before ++ slot_with new ∷ after))) in
-            let fulls = all_around (λ (t : Slot). IsSome t.txn) before after s (subst (λ (l : List Slot). AllByRecursion (λ (t : Slot). IsSome t.txn) l) e k.full) in
-            record {
-              legal = legal;
-              active_are = now_active;
-              apart = apart_with (λ (t : Slot). t.sid) before after s (slot_with new) refl (subst (λ (l : List Slot). AreApart (λ (t : Slot). t.sid) l) e k.apart);
-              full = all_joined (λ (t : Slot). IsSome t.txn) before (slot_with new ∷ after) fulls.0 (there, fulls.2);
-              each = all_joined (λ (t : Slot). IsSession w 0 t.txn) before (slot_with new ∷ after) (each_longer z w serves.adds legal before each_then.0 actives.0) (session, each_longer z w serves.adds legal after each_then.2 actives.2);
-            }
+  full_then : AllByRecursion (λ (t : Slot). IsSome t.txn) before × IsSome (Some txn) × AllByRecursion (λ (t : Slot). IsSome t.txn) after
+  full_then = all_around (λ (t : Slot). IsSome t.txn) before after (slot_of sid (Some txn)) (subst (λ (l : List Slot). AllByRecursion (λ (t : Slot). IsSome t.txn) l) e k.full)
 
-    pub changed_leads : IsSome new → AreAtRest z.history → Leads (record { zero = z; opened = opened_of slots }) step (record { zero = w; opened = opened_of (before ++ slot_with new ∷ after) })
-    changed_leads there rest = by s.txn new full_then there refl refl
-      where
-        by : (old now : Option Transaction) → IsSome old → IsSome now → old ≡ s.txn → now ≡ new → Leads (record { zero = z; opened = opened_of slots }) step (record { zero = w; opened = opened_of (before ++ slot_with new ∷ after) })
-        by None now old_there now_there old_is now_is = absurd old_there
-        by (Some a) None old_there now_there old_is now_is = absurd now_there
-        by (Some a) (Some b) old_there now_there old_is now_is =
-            let placed_is : placed (own_session s.sid) s.txn new (sessions_of before) (sessions_of after) ≡ between (sessions_of before) (own_session s.sid new) (sessions_of after) =
-            subst (λ (o : Option Transaction). placed (own_session s.sid) o new (sessions_of before) (sessions_of after) ≡ between (sessions_of before) (own_session s.sid new) (sessions_of after)) old_is
-            (subst (λ (o : Option Transaction). placed (own_session s.sid) (Some a) o (sessions_of before) (sessions_of after) ≡ between (sessions_of before) (own_session s.sid o) (sessions_of after)) now_is refl) in
-            let now_machine : machine_of (record { zero = w; opened = opened_of (before ++ slot_with new ∷ after) }) ≡ machine_beside w (placed (own_session s.sid) s.txn new (sessions_of before) (sessions_of after)) =
-            ap (machine_beside w) (sessions_are (before ++ slot_with new ∷ after) ∙ (sessions_around before after (slot_with new) ∙ sym placed_is)) in
-            record { leads = subst (λ (m : Machine). step m (machine_of (record { zero = w; opened = opened_of (before ++ slot_with new ∷ after) }))) (sym machine_then) (subst (λ (n : Machine). step (machine_beside z (between (sessions_of before) (own_session s.sid s.txn) (sessions_of after))) n) (sym now_machine)
-            (serves.machine rest (sessions_of before) (sessions_of after) (others_have s.sid before around_apart.0) (others_have s.sid after around_apart.1))) }
+  -- its transaction is open
+  pub open_then : IsOpen z.history 0 txn
+  open_then = each_then.1
 
-    -- it has ended
-    pub closed_kept : new ≡ None → IsKept w (before ++ after)
-    closed_kept none = by s.txn full_then refl
-      where
-        by : (old : Option Transaction) → IsSome old → old ≡ s.txn → IsKept w (before ++ after)
-        by None old_there old_is = absurd old_there
-        by (Some a) old_there old_is =
-            let back = sym none in
-            let placed_is : placed (own_start 0) s.txn new (starts_in before) (starts_in after) ≡ starts_in before ++ starts_in after =
-            subst (λ (o : Option Transaction). placed (own_start 0) o new (starts_in before) (starts_in after) ≡ starts_in before ++ starts_in after) old_is
-            (subst (λ (o : Option Transaction). placed (own_start 0) (Some a) o (starts_in before) (starts_in after) ≡ starts_in before ++ starts_in after) back refl) in
-            let now_active : active w.history ≡ starts_in (before ++ after) = serves.starts (starts_in before) (starts_in after) starts_then ∙ (placed_is ∙ sym (starts_joined before after)) in
-            let fulls = all_around (λ (t : Slot). IsSome t.txn) before after s (subst (λ (l : List Slot). AllByRecursion (λ (t : Slot). IsSome t.txn) l) e k.full) in
-            record {
-              legal = legal;
-              active_are = now_active;
-              apart = apart_without (λ (t : Slot). t.sid) before after s (subst (λ (l : List Slot). AreApart (λ (t : Slot). t.sid) l) e k.apart);
-              full = all_joined (λ (t : Slot). IsSome t.txn) before after fulls.0 fulls.2;
-              each = each_longer z w serves.adds legal (before ++ after) (all_joined (λ (t : Slot). IsSession z 0 t.txn) before after each_then.0 each_then.2) (subst (λ (ts : List Started). AllByRecursion (λ (t : Slot). IsActiveIn ts t.txn) (before ++ after)) (sym now_active) (all_active (before ++ after)));
-            }
+  -- the machine finds it
+  pub found_then : session_of (machine_of (held_by z slots)) sid ≡ Some (session_by sid txn)
+  found_then = ap (λ (m : Machine). session_of m sid) (machine_is z slots ∙ ap (machine_beside z) sessions_then) ∙ found_between sid (sessions_of before) (sessions_of after) (session_by sid txn) refl others_before
 
-    pub closed_leads : new ≡ None → AreAtRest z.history → Leads (record { zero = z; opened = opened_of slots }) step (record { zero = w; opened = opened_of (before ++ after) })
-    closed_leads none rest = by s.txn full_then refl
-      where
-        by : (old : Option Transaction) → IsSome old → old ≡ s.txn → Leads (record { zero = z; opened = opened_of slots }) step (record { zero = w; opened = opened_of (before ++ after) })
-        by None old_there old_is = absurd old_there
-        by (Some a) old_there old_is =
-            let back = sym none in
-            let placed_is : placed (own_session s.sid) s.txn new (sessions_of before) (sessions_of after) ≡ sessions_of before ++ sessions_of after =
-            subst (λ (o : Option Transaction). placed (own_session s.sid) o new (sessions_of before) (sessions_of after) ≡ sessions_of before ++ sessions_of after) old_is
-            (subst (λ (o : Option Transaction). placed (own_session s.sid) (Some a) o (sessions_of before) (sessions_of after) ≡ sessions_of before ++ sessions_of after) back refl) in
-            let now_machine : machine_of (record { zero = w; opened = opened_of (before ++ after) }) ≡ machine_beside w (placed (own_session s.sid) s.txn new (sessions_of before) (sessions_of after)) =
-            ap (machine_beside w) (sessions_are (before ++ after) ∙ (sessions_joined before after ∙ sym placed_is)) in
-            record { leads = subst (λ (m : Machine). step m (machine_of (record { zero = w; opened = opened_of (before ++ after) }))) (sym machine_then) (subst (λ (n : Machine). step (machine_beside z (between (sessions_of before) (own_session s.sid s.txn) (sessions_of after))) n) (sym now_machine)
-            (serves.machine rest (sessions_of before) (sessions_of after) (others_have s.sid before around_apart.0) (others_have s.sid after around_apart.1))) }
+  -- what it sees leads nowhere
+  pub seen_leads : (step : Machine → Machine → Type 0) → Sees sid (Some txn) step z → Leads (held_by z slots) step (held_by z slots)
+  seen_leads step sees = leads_beside z z slots slots step _ _ sessions_then sessions_then (sees (sessions_of before) (sessions_of after) others_before others_after)
+
+  pub served_kept : (w : Zero) (new : Option Transaction) (step : Machine → Machine → Type 0) → Serves 0 sid (Some txn) new step z w → IsLegal w.groups w.history → IsSession w 0 new → IsKept w (left_of before after sid new)
+  served_kept w None step serves legal session =
+      let now : active w.history ≡ starts_in (before ++ after) = serves.starts (starts_in before) (starts_in after) starts_then ∙ sym (starts_joined before after) in
+      record {
+        legal = legal;
+        active_are = now;
+        apart = apart_without (λ (t : Slot). t.sid) before after (slot_of sid (Some txn)) apart_then;
+        full = all_joined (λ (t : Slot). IsSome t.txn) before after full_then.0 full_then.2;
+        each = each_longer z w serves.adds legal (before ++ after) (all_joined (λ (t : Slot). IsSession z 0 t.txn) before after each_then.0 each_then.2) (actives z w serves.adds legal (before ++ after) now);
+      }
+  served_kept w (Some changed) step serves legal session =
+      let s : Slot = slot_of sid (Some changed) in
+      let now : active w.history ≡ starts_in (before ++ s ∷ after) = serves.starts (starts_in before) (starts_in after) starts_then ∙ sym (starts_around before after s) in
+      let around = all_around (λ (t : Slot). IsActiveIn (active w.history) t.txn) before after s (actives z w serves.adds legal (before ++ s ∷ after) now) in
+      record {
+        legal = legal;
+        active_are = now;
+        apart = apart_with (λ (t : Slot). t.sid) before after (slot_of sid (Some txn)) s refl apart_then;
+        full = all_joined (λ (t : Slot). IsSome t.txn) before (s ∷ after) full_then.0 (refl, full_then.2);
+        each = all_joined (λ (t : Slot). IsSession w 0 t.txn) before (s ∷ after) (each_longer z w serves.adds legal before each_then.0 around.0) (session, each_longer z w serves.adds legal after each_then.2 around.2);
+      }
+
+  pub served_leads : (w : Zero) (new : Option Transaction) (step : Machine → Machine → Type 0) → Serves 0 sid (Some txn) new step z w → AreAtRest z.history → Leads (held_by z slots) step (held_by w (left_of before after sid new))
+  served_leads w None step serves rest =
+      leads_beside z w slots (before ++ after) step _ _ sessions_then (sessions_joined before after) (serves.machine rest (sessions_of before) (sessions_of after) others_before others_after)
+  served_leads w (Some changed) step serves rest =
+      leads_beside z w slots (before ++ slot_of sid (Some changed) ∷ after) step _ _ sessions_then (sessions_around before after (slot_of sid (Some changed))) (serves.machine rest (sessions_of before) (sessions_of after) others_before others_after)
 
 -- ---- a request of a session without a slot
 
-module _ (z w : Zero) (slots : List Slot) (sid : ℕ) (k : IsKept z slots) (none : AllByRecursion (λ (t : Slot). t.sid ≢ sid) slots) where
-  pub machine_behind : machine_of (record { zero = z; opened = opened_of slots }) ≡ machine_beside z (between (sessions_of slots) [] [])
-  machine_behind = ap (machine_beside z) (sessions_are slots ∙ sym (append-nil (sessions_of slots)))
-
+module _ (z : Zero) (slots : List Slot) (sid : ℕ) (k : IsKept z slots) (none : AllByRecursion (λ (t : Slot). t.sid ≢ sid) slots) where
   starts_behind : active z.history ≡ between (starts_in slots) [] []
   starts_behind = k.active_are ∙ sym (append-nil (starts_in slots))
 
-  module _ (step : Machine → Machine → Type 0) (legal : IsLegal w.groups w.history) where
-    -- it has none after it
-    pub refused_kept : Serves 0 sid None None step z w → IsKept w slots
-    refused_kept serves =
-        all_kept z w serves.adds legal slots k (serves.starts (starts_in slots) [] starts_behind ∙ sym starts_behind)
+  sessions_behind : sessions_of slots ≡ between (sessions_of slots) [] []
+  sessions_behind = sym (append-nil (sessions_of slots))
 
-    pub refused_leads : Serves 0 sid None None step z w → AreAtRest z.history → Leads (record { zero = z; opened = opened_of slots }) step (record { zero = w; opened = opened_of slots })
-    refused_leads serves rest =
-        let after : machine_of (record { zero = w; opened = opened_of slots }) ≡ machine_beside w (between (sessions_of slots) [] []) = ap (machine_beside w) (sessions_are slots ∙ sym (append-nil (sessions_of slots))) in
-        record { leads = subst (λ (m : Machine). step m (machine_of (record { zero = w; opened = opened_of slots }))) (sym machine_behind) (subst (λ (n : Machine). step (machine_beside z (between (sessions_of slots) [] [])) n) (sym after)
-        (serves.machine rest (sessions_of slots) [] (others_have sid slots none) tt)) }
+  -- the machine doesn't find it
+  pub none_then : session_of (machine_of (held_by z slots)) sid ≡ None
+  none_then = ap (λ (m : Machine). session_of m sid) (machine_is z slots) ∙ none_found sid (sessions_of slots) (others_have sid slots none)
 
-    -- or one that was opened
-    module _ (txn : Transaction) (serves : Serves 0 sid None (Some txn) step z w) where
-      more : List Slot
-      more = slots ++ (record { sid = sid; txn = Some txn }) ∷ []
+  pub unseen_leads : (step : Machine → Machine → Type 0) → Sees sid None step z → Leads (held_by z slots) step (held_by z slots)
+  unseen_leads step sees = leads_beside z z slots slots step _ _ sessions_behind sessions_behind (sees (sessions_of slots) [] (others_have sid slots none) tt)
 
-      pub opened_kept : IsSession w 0 (Some txn) → IsKept w (slots ++ (record { sid = sid; txn = Some txn }) ∷ [])
-      opened_kept session =
-          let s : Slot = record { sid = sid; txn = Some txn } in
-          let now_active : active w.history ≡ starts_in (slots ++ s ∷ []) = serves.starts (starts_in slots) [] starts_behind ∙ ((λ i. append-nil (starts_in slots) i ++ own_start 0 (Some txn)) ∙ sym (starts_joined slots (s ∷ []))) in
-          let actives = all_around (λ (t : Slot). IsActiveIn (active w.history) t.txn) slots [] s (subst (λ (ts : List Started). AllByRecursion (λ (t : Slot). IsActiveIn ts t.txn) (slots ++ s ∷ [])) (sym now_active) (all_active (slots ++ s ∷ []))) in
-          record {
-            legal = legal;
-            active_are = now_active;
-            apart = apart_push (λ (t : Slot). t.sid) slots s k.apart none;
-            full = all_joined (λ (t : Slot). IsSome t.txn) slots (s ∷ []) k.full (tt, tt);
-            each = all_joined (λ (t : Slot). IsSession w 0 t.txn) slots (s ∷ []) (each_longer z w serves.adds legal slots k.each actives.0) (session, tt);
-          }
+  pub opened_kept : (w : Zero) (new : Option Transaction) (step : Machine → Machine → Type 0) → Serves 0 sid None new step z w → IsLegal w.groups w.history → IsSession w 0 new → IsKept w (with_opened slots sid new)
+  opened_kept w None step serves legal session =
+      all_kept z w serves.adds legal slots k (serves.starts (starts_in slots) [] starts_behind ∙ sym starts_behind)
+  opened_kept w (Some txn) step serves legal session =
+      let s : Slot = slot_of sid (Some txn) in
+      let now : active w.history ≡ starts_in (slots ++ s ∷ []) = serves.starts (starts_in slots) [] starts_behind ∙ ((λ i. append-nil (starts_in slots) i ++ own_start 0 (Some txn)) ∙ sym (starts_joined slots (s ∷ []))) in
+      let around = all_around (λ (t : Slot). IsActiveIn (active w.history) t.txn) slots [] s (actives z w serves.adds legal (slots ++ s ∷ []) now) in
+      record {
+        legal = legal;
+        active_are = now;
+        apart = apart_push (λ (t : Slot). t.sid) slots s k.apart none;
+        full = all_joined (λ (t : Slot). IsSome t.txn) slots (s ∷ []) k.full (refl, tt);
+        each = all_joined (λ (t : Slot). IsSession w 0 t.txn) slots (s ∷ []) (each_longer z w serves.adds legal slots k.each around.0) (session, tt);
+      }
 
-      pub opened_leads : AreAtRest z.history → Leads (record { zero = z; opened = opened_of slots }) step (record { zero = w; opened = opened_of (slots ++ (record { sid = sid; txn = Some txn }) ∷ []) })
-      opened_leads rest =
-          let s : Slot = record { sid = sid; txn = Some txn } in
-          let after : machine_of (record { zero = w; opened = opened_of (slots ++ s ∷ []) }) ≡ machine_beside w ((sessions_of slots ++ []) ++ own_session sid (Some txn)) = ap (machine_beside w) (sessions_are (slots ++ s ∷ []) ∙ (sessions_joined slots (s ∷ []) ∙ (λ i. sym (append-nil (sessions_of slots)) i ++ own_session sid (Some txn)))) in
-          record { leads = subst (λ (m : Machine). step m (machine_of (record { zero = w; opened = opened_of (slots ++ s ∷ []) }))) (sym machine_behind) (subst (λ (n : Machine). step (machine_beside z (between (sessions_of slots) [] [])) n) (sym after)
-          (serves.machine rest (sessions_of slots) [] (others_have sid slots none) tt)) }
+  pub opened_leads : (w : Zero) (new : Option Transaction) (step : Machine → Machine → Type 0) → Serves 0 sid None new step z w → AreAtRest z.history → Leads (held_by z slots) step (held_by w (with_opened slots sid new))
+  opened_leads w None step serves rest =
+      leads_beside z w slots slots step _ _ sessions_behind sessions_behind (serves.machine rest (sessions_of slots) [] (others_have sid slots none) tt)
+  opened_leads w (Some txn) step serves rest =
+      let s : Slot = slot_of sid (Some txn) in
+      leads_beside z w slots (slots ++ s ∷ []) step _ _ sessions_behind (sessions_joined slots (s ∷ []) ∙ (λ i. sym (append-nil (sessions_of slots)) i ++ own_session sid (Some txn))) (serves.machine rest (sessions_of slots) [] (others_have sid slots none) tt)
+
+-- ---- the slot at a place
+
+full_slot : (s : Slot) (o : Option Transaction) → s.txn ≡ o → IsSome o → (txn : Transaction) × (o ≡ Some txn)
+full_slot s None e some = absurd (cc)
+full_slot s (Some txn) e some = (txn, refl)
+
+module _ (z : Zero) (slots : List Slot) (sid place : ℕ) (k : IsKept z slots) (a : Around (λ (t : Slot). t.sid) sid slots place) where
+  some_then : (txn : Transaction) × (a.it.txn ≡ Some txn)
+  some_then = full_slot a.it a.it.txn refl (all_around (λ (t : Slot). IsSome t.txn) a.before a.after a.it (subst (λ (l : List Slot). AllByRecursion (λ (t : Slot). IsSome t.txn) l) a.whole k.full)).1
+
+  -- its transaction, and the slots around it
+  pub slot_at : (txn : Transaction) × (a.it.txn ≡ Some txn) × (slots ≡ a.before ++ slot_of sid (Some txn) ∷ a.after)
+  slot_at =
+      let found = some_then in
+      let number = a.is in
+      let own = found.1 in
+      (found.0, own, a.whole ∙ (λ i. a.before ++ slot_of (number i) (own i) ∷ a.after))
+
+-- what is left of the slots
+pub left_is : (before after : List Slot) (sid : ℕ) (new : Option Transaction) → unless_open (before ++ slot_of sid new ∷ after) (length before) (slice_get (before ++ slot_of sid new ∷ after) (length before)) ≡ left_of before after sid new
+left_is before after sid new = ap (unless_open (before ++ slot_of sid new ∷ after) (length before)) (get_at before after (slot_of sid new)) ∙ by new
+  where
+    by : (o : Option Transaction) → unless_open (before ++ slot_of sid o ∷ after) (length before) (Some (slot_of sid o)) ≡ left_of before after sid o
+    by None = removed_at before after (slot_of sid None)
+    by (Some txn) = refl
+
+pub changed_is : (before after : List Slot) (sid : ℕ) (new : Option Transaction) → is_some new ≡ true → before ++ slot_of sid new ∷ after ≡ left_of before after sid new
+changed_is before after sid None e = absurd (cc)
+changed_is before after sid (Some txn) e = refl

@@ -1,5 +1,5 @@
 -- What the engine keeps of itself: Zero's history is legal, and the transactions of its slots are the active ones.
-use Rattle.std.specs.Prelude.{◌≡◌, ◌≢◌, ℕ, List, [], ◌∷◌, Option, Some, None, IsSome, flat_map}
+use Rattle.std.specs.Prelude.{◌≡◌, ◌≢◌, ℕ, if◌then◌else◌, List, [], ◌∷◌, ◌++◌, Option, Some, None, is_some, IsSome, flat_map}
 use Rattle.std.specs.List.{AllByRecursion, remove}
 use Rattle.dg_zero.specs.Counters.{active}
 use Rattle.dg_zero.specs.Legal.{IsLegal}
@@ -24,9 +24,14 @@ abbrev pub opened_of : List Slot → List Opened
 opened_of slots = flat_map (λ s. opened_in s.sid s.txn) slots
 
 -- the slots without the one at a place, where its session has no transaction
-abbrev pub unless_open : List Slot → ℕ → Option Transaction → List Slot
-unless_open slots place None = remove slots place
-unless_open slots place (Some txn) = slots
+abbrev pub unless_open : List Slot → ℕ → Option Slot → List Slot
+unless_open slots place None = slots
+unless_open slots place (Some slot) = if is_some slot.txn then slots else remove slots place
+
+-- the slots, and a session behind them, where it has a transaction
+abbrev pub with_opened : List Slot → ℕ → Option Transaction → List Slot
+with_opened slots sid None = slots
+with_opened slots sid (Some txn) = slots ++ (record { sid = sid; txn = Some txn }) ∷ []
 
 -- Each slot has a transaction; these are the active ones, and no two have the same session.
 pub record IsKept (zero : Zero) (slots : List Slot) : Type 0 where

@@ -1,5 +1,7 @@
 // The engine: a cluster that no one else uses, and the table of sessions.
-ghost use Rattle.std.specs.Prelude.{◌≡◌};
+ghost use Rattle.std.specs.Prelude.{◌≡◌, ◌==◌, ◌<◌, IfSome, position, length, slice_get};
+ghost use Rattle.std.specs.Vec.{vec_len, vec_capacity};
+ghost use Rattle.dg_node.specs.Kept.{unless_open, with_opened};
 
 use crate::alters::alter;
 use crate::mutations::mutate;
@@ -39,24 +41,6 @@ impl Model for Engine {
     ghost view = { λ e. record { zero = e.cluster; opened = opened_of e.slots.items } };
 
     ghost invariant = { λ e. IsKept e.cluster e.slots.items };
-}
-
-// The place of a session's slot, where it has one.
-fn place_of(slots: &[Slot], sid: u32) -> Option<usize>
-    ensures place { result ≡ position (λ s. s.sid == sid) slots.now }
-    ensures within { IfSome result (λ place. place < length slots.now) }
-{
-    slots.iter().position(|slot| slot.sid == sid)
-}
-
-// Takes out the slot at a place, where its session has no transaction any more.
-fn drop_closed(slots: &mut Vec<Slot>, place: usize)
-    requires place { place < length slots.old.items }
-    ensures { slots.new.items ≡ unless_open slots.old.items place (slice_get slots.old.items place) }
-{
-    if slots[place].txn.is_none() {
-        let _ = slots.remove(place);
-    }
 }
 
 impl Engine {
@@ -116,9 +100,7 @@ impl Engine {
         self.cluster.at_rest();
         let mut session = None;
         let reply = begin(alloc, &mut self.cluster, &mut session, AUTHOR, sid)?;
-        if session.is_some() {
-            self.slots.push_reserved(Slot { sid, txn: session });
-        }
+        push_opened(&mut self.slots, sid, session);
         Ok(reply)
     }
 
@@ -199,5 +181,36 @@ impl Engine {
         );
         drop_closed(&mut self.slots, place);
         reply
+    }
+}
+
+// The place of a session's slot, where it has one.
+fn place_of(slots: &[Slot], sid: u32) -> Option<usize>
+    ensures place { result ≡ position (λ s. s.sid == sid) slots.now }
+    ensures within { IfSome result (λ place. place < length slots.now) }
+{
+    slots.iter().position(|slot| slot.sid == sid)
+}
+
+// Puts a session behind the others, where it has a transaction. There is room for it.
+fn push_opened(slots: &mut Vec<Slot>, sid: u32, session: Option<Txn>)
+    requires room { vec_len slots.old < vec_capacity slots.old }
+    ensures { slots.new.items ≡ with_opened slots.old.items sid session }
+{
+    if let Some(txn) = session {
+        slots.push_reserved(Slot {
+            sid,
+            txn: Some(txn),
+        });
+    }
+}
+
+// Takes out the slot at a place, where its session has no transaction any more.
+fn drop_closed(slots: &mut Vec<Slot>, place: usize)
+    requires place { place < length slots.old.items }
+    ensures { slots.new.items ≡ unless_open slots.old.items place (slice_get slots.old.items place) }
+{
+    if slots[place].txn.is_none() {
+        let _ = slots.remove(place);
     }
 }

@@ -1,0 +1,116 @@
+-- Each call of the engine, by what the handler of its session says.
+use Rattle.std.proofs.Common.{◌≡◌, ◌≢◌, ℕ, Bool, true, false, List, [], ◌++◌, ◌∷◌, Option, Some, None, is_some, Ok, Err, length, set, refl, ap, subst, sym, ◌∙◌}
+use Rattle.std.specs.Prelude.{◌==◌, position, slice_get, Result, IfOk, IsSomeAnd}
+use Rattle.std.specs.List.{AllByRecursion}
+use Rattle.dg_wire.specs.declared.refusal.Refusal.TheVariants as refusals
+use Rattle.dg_wire.specs.declared.reply.Reply.{Reply}
+use Rattle.dg_wire.specs.declared.reply.Reply.TheVariants as replies
+use Rattle.dg_zero.specs.Legal.{IsLegal}
+use Rattle.dg_zero.specs.States.{Zero}
+use Rattle.dg_txn.specs.Own.{Transaction}
+use Rattle.dg_node.specs.declared.engine.Slot.{Slot}
+use Rattle.dg_node.specs.Kept.{unless_open, IsKept}
+use Rattle.dg_node.specs.Machine.{Machine, session_of}
+use Rattle.dg_node.specs.Owning.{AreAtRest}
+use Rattle.dg_node.specs.Clusters.{Meets}
+use Rattle.dg_node.specs.Sessions.{IsOpen, IsSession, Serves, Sees}
+use Rattle.dg_node.specs.State.{machine_of, Leads}
+use Rattle.dg_node.specs.Transactions.{begun, HasChanges}
+use Rattle.dg_node.proofs.Alone.{met_alone}
+use Rattle.dg_node.proofs.OneAmong.{Around, around, none_has, it_is, set_is}
+use Rattle.dg_node.proofs.ReplyLemmas.{begun_already}
+use Rattle.dg_node.proofs.Slots.{slot_of, held_by, left_of, open_then, found_then, none_then, seen_leads, unseen_leads, served_kept, served_leads, slot_at, left_is, changed_is}
+
+abbrev Pair : Type 0
+Pair = Reply × Machine
+
+-- ---- where a session stands
+
+pub none_at : (slots seen : List Slot) (sid : ℕ) (found : Option ℕ) → seen ≡ slots → found ≡ position (λ (s : Slot). s.sid == sid) seen → found ≡ None → AllByRecursion (λ (s : Slot). s.sid ≢ sid) slots
+none_at slots seen sid found same found_is none =
+    none_has (λ (s : Slot). s) (λ (s : Slot). s.sid) sid slots (ap (position (λ (s : Slot). s.sid == sid)) (sym same) ∙ (sym found_is ∙ none))
+
+pub some_at : (slots seen : List Slot) (sid : ℕ) (found : Option ℕ) (place : ℕ) → seen ≡ slots → found ≡ position (λ (s : Slot). s.sid == sid) seen → found ≡ Some place → Around (λ (s : Slot). s.sid) sid slots place
+some_at slots seen sid found place same found_is some =
+    around (λ (s : Slot). s.sid) sid slots place (ap (position (λ (s : Slot). s.sid == sid)) (sym same) ∙ (sym found_is ∙ some))
+
+pub not_some : (found : Option ℕ) → is_some found ≡ false → found ≡ None
+not_some None e = refl
+not_some (Some place) e = absurd (cc)
+
+-- ---- a session without a slot
+
+module _ (z : Zero) (slots : List Slot) (sid : ℕ) (k : IsKept z slots) (none : AllByRecursion (λ (s : Slot). s.sid ≢ sid) slots) where
+  -- what the machine does where it finds no session
+  pub missing_leads : (step : Machine → Machine → Type 0) → ((m : Machine) → session_of m sid ≡ None → step m m) → Leads (held_by z slots) step (held_by z slots)
+  missing_leads step f = record { leads = f (machine_of (held_by z slots)) (none_then z slots sid k none) }
+
+-- ---- a session in its slot
+
+module _ (z : Zero) (slots : List Slot) (sid place : ℕ) (k : IsKept z slots) (a : Around (λ (s : Slot). s.sid) sid slots place) where
+  -- it has a transaction already
+  pub already_leads : Leads (held_by z slots) (λ m n. ◌≡◌ {A = Pair} (begun m sid) (replies.Refused (refusals.SessionOpen sid), n)) (held_by z slots)
+  already_leads =
+      let t = slot_at z slots sid place k a in
+      record { leads = begun_already (machine_of (held_by z slots)) sid (ap is_some (found_then z slots a.before a.after sid t.0 k t.2)) }
+
+  module _ (d : Slot) (seen : d ≡ a.it) where
+    -- what it has there
+    txn_there : (txn : Transaction) × (d.txn ≡ Some txn) × (slots ≡ a.before ++ slot_of sid (Some txn) ∷ a.after)
+    txn_there = let t = slot_at z slots sid place k a in (t.0, ap (λ (s : Slot). s.txn) seen ∙ t.1, t.2)
+
+    pub session_there : IsSession z 0 d.txn
+    session_there = let t = txn_there in subst (IsSession z 0) (sym t.1) (open_then z slots a.before a.after sid t.0 k t.2)
+
+    pub sees_there : (step : Machine → Machine → Type 0) → Sees sid d.txn step z → Leads (held_by z slots) step (held_by z slots)
+    sees_there step sees = let t = txn_there in seen_leads z slots a.before a.after sid t.0 k t.2 step (subst (λ (o : Option Transaction). Sees sid o step z) t.1 sees)
+
+    pub changes_there : IsSomeAnd d.txn (λ txn. txn.own ≢ []) → HasChanges (machine_of (held_by z slots)) sid
+    changes_there some =
+        let t = txn_there in
+        subst (λ o. IsSomeAnd o (λ session. session.own ≢ [])) (sym (found_then z slots a.before a.after sid t.0 k t.2))
+        (subst (λ (o : Option Transaction). IsSomeAnd o (λ txn. txn.own ≢ [])) t.1 some)
+
+    module _ (w : Zero) (new : Option Transaction) (step : Machine → Machine → Type 0) (m : Meets (λ n. true) z w (Serves 0 sid d.txn new step)) where
+      serves : (old : Option Transaction) → d.txn ≡ old → Serves 0 sid old new step z w
+      serves old e = subst (λ (o : Option Transaction). Serves 0 sid o new step z w) e (met_alone z w (Serves 0 sid d.txn new step) m)
+
+      slots_then : set slots place (slot_of d.sid new) ≡ a.before ++ slot_of sid new ∷ a.after
+      slots_then =
+          let number : d.sid ≡ sid = ap (λ (s : Slot). s.sid) seen ∙ a.is in
+          ap (λ (n : ℕ). set slots place (slot_of n new)) number ∙ set_is (λ (s : Slot). s.sid) sid slots place a (slot_of sid new)
+
+      -- it may have ended
+      ended_slots : unless_open (set slots place (slot_of d.sid new)) place (slice_get (set slots place (slot_of d.sid new)) place) ≡ left_of a.before a.after sid new
+      ended_slots =
+          let whole = slots_then in
+          let at : place ≡ length a.before = sym a.at in
+          (λ i. unless_open (whole i) (at i) (slice_get (whole i) (at i))) ∙ left_is a.before a.after sid new
+
+      pub ended_kept : IsLegal w.groups w.history → IsSession w 0 new → IsKept w (unless_open (set slots place (slot_of d.sid new)) place (slice_get (set slots place (slot_of d.sid new)) place))
+      ended_kept legal session =
+          let t = txn_there in
+          subst (IsKept w) (sym ended_slots) (served_kept z slots a.before a.after sid t.0 k t.2 w new step (serves (Some t.0) t.1) legal session)
+
+      pub ended_leads : AreAtRest z.history → Leads (held_by z slots) step (held_by w (unless_open (set slots place (slot_of d.sid new)) place (slice_get (set slots place (slot_of d.sid new)) place)))
+      ended_leads rest =
+          let t = txn_there in
+          subst (λ (l : List Slot). Leads (held_by z slots) step (held_by w l)) (sym ended_slots) (served_leads z slots a.before a.after sid t.0 k t.2 w new step (serves (Some t.0) t.1) rest)
+
+      -- or it stays open
+      module _ (stays : is_some new ≡ is_some d.txn) where
+        some_new : is_some new ≡ true
+        some_new = let t = txn_there in stays ∙ ap is_some t.1
+
+        stayed_slots : set slots place (slot_of d.sid new) ≡ left_of a.before a.after sid new
+        stayed_slots = slots_then ∙ changed_is a.before a.after sid new some_new
+
+        pub stayed_kept : IsLegal w.groups w.history → IsSession w 0 new → IsKept w (set slots place (slot_of d.sid new))
+        stayed_kept legal session =
+            let t = txn_there in
+            subst (IsKept w) (sym stayed_slots) (served_kept z slots a.before a.after sid t.0 k t.2 w new step (serves (Some t.0) t.1) legal session)
+
+        pub stayed_leads : AreAtRest z.history → Leads (held_by z slots) step (held_by w (set slots place (slot_of d.sid new)))
+        stayed_leads rest =
+            let t = txn_there in
+            subst (λ (l : List Slot). Leads (held_by z slots) step (held_by w l)) (sym stayed_slots) (served_leads z slots a.before a.after sid t.0 k t.2 w new step (serves (Some t.0) t.1) rest)
