@@ -1,11 +1,9 @@
 -- What a mutation makes of the history and of the machine, beside sessions of others.
-use Rattle.std.proofs.Common.{◌≡◌, ◌≢◌, ℕ, ◌+◌, ◌<◌, ◌^◌, Bool, true, false, List, [], ◌∷◌, ◌++◌, Option, Some, None, inl, inr, length, refl, ap, subst, sym, ◌∙◌, arith}
-use Rattle.std.specs.Prelude.{◌==◌, map, Result, Ok, Err}
-use Rattle.std.specs.List.{AllByRecursion}
+use Rattle.std.proofs.Common.{◌≡◌, ◌≢◌, ℕ, ◌+◌, Bool, true, false, List, [], ◌∷◌, ◌++◌, Option, Some, None, inl, inr, length, refl, ap, subst, sym, ◌∙◌, arith}
+use Rattle.std.specs.Prelude.{◌==◌, map, Result}
 use Rattle.std.specs.Str.Lossy.{utf8_valid_len}
 use Rattle.dg_schema.specs.declared.definition.PredDef.{PredDef}
 use Rattle.dg_graph.specs.declared.change.Change.{Change}
-use Rattle.dg_graph.specs.declared.change.Triple.{Triple}
 use Rattle.dg_graph.specs.Graphs.{after_changes, fits}
 use Rattle.dg_graph.specs.Changes.{changed as of_change}
 use Rattle.dg_edges.specs.declared.edge.Edge.{Edge}
@@ -13,32 +11,29 @@ use Rattle.dg_edges.specs.declared.fault.EdgeFault.{EdgeFault}
 use Rattle.dg_edges.specs.Deltas.{AreFitting}
 use Rattle.dg_edges.specs.Resolving.{Resolves}
 use Rattle.dg_edges.specs.Expanding.{new_names, top_uid, expanded}
-use Rattle.dg_nquad.specs.declared.fault.NquadFault.{NquadFault}
 use Rattle.dg_nquad.specs.declared.mutation.Statement.{Statement}
 use Rattle.dg_nquad.specs.Whole.{mutation}
 use Rattle.dg_wire.specs.declared.refusal.Refusal.TheVariants as refusals
 use Rattle.dg_wire.specs.declared.reply.Reply.{Reply}
 use Rattle.dg_wire.specs.declared.reply.Reply.TheVariants as replies
 use Rattle.dg_zero.specs.declared.entry.Entry.{Entry}
-use Rattle.dg_zero.specs.declared.entry.Event.TheVariants.{Lease, Look}
-use Rattle.dg_zero.specs.Counters.{next, next_uid, leased, active, Started}
+use Rattle.dg_zero.specs.declared.entry.Event.TheVariants.{Lease}
+use Rattle.dg_zero.specs.Counters.{next, next_uid, leased, active}
 use Rattle.dg_zero.specs.Legal.{IsLegal}
 use Rattle.dg_zero.specs.States.{Zero, and_then}
-use Rattle.dg_zero.specs.Worlds.{World, world_at}
 use Rattle.dg_txn.specs.Own.{Transaction, graph}
 use Rattle.dg_node.specs.Graphs as machines
-use Rattle.dg_node.specs.Machine.{Machine, Session, session_of, changed_if, with_changes, leased_upto}
+use Rattle.dg_node.specs.Machine.{Machine, Session, changed_if, with_changes, leased_upto}
 use Rattle.dg_node.specs.Mutations.{first_leased, added, mutated, Mutates, MutatesIn, MutatesText, MutatesAs, MutatesBy}
 use Rattle.dg_node.specs.NewUids.{uids_text}
-use Rattle.dg_node.specs.Owning.{AreAtRest}
 use Rattle.dg_node.specs.Schemas.{schema_at}
-use Rattle.dg_node.specs.Sessions.{IsOpen, session_by, with_own, own_session, own_start, between, HaveOthers, Serves, Sees}
+use Rattle.dg_node.specs.Sessions.{IsOpen, session_by, with_own, own_session, between, Serves, Sees}
 use Rattle.dg_node.specs.State.{alters, asked_by, machine_beside}
-use Rattle.dg_node.specs.Steps.{Raises, MayRaise}
+use Rattle.dg_node.specs.Steps.{MayRaise}
 use Rattle.dg_node.proofs.Between.{changed_between}
 use Rattle.dg_node.proofs.CommitLemmas.{lease_quiet}
 use Rattle.dg_node.proofs.MachineLemmas.{schemas_are}
-use Rattle.dg_node.proofs.MutationLemmas.{added_none, added_spent, added_is}
+use Rattle.dg_node.proofs.MutationLemmas.{added_spent, added_is}
 use Rattle.dg_node.proofs.OneAmong.{all_joined}
 use Rattle.dg_node.proofs.Serving.{Finds, finds_own, stands_beside, quiet_beside, adds_one, leaves_starts}
 

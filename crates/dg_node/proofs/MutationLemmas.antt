@@ -26,10 +26,6 @@ Pair = Reply × Machine
 -- ---- what is answered
 
 module _ (m : Machine) (s : Session) where
-  pub added_none : (edges : List Edge) → edges ≡ [] → ◌≡◌ {A = Pair} (added m s edges) (replies.Mutate s.sid (uids_text 0 []), m)
-  added_none [] e = refl
-  added_none (edge ∷ edges) e = absurd (cc)
-
   some_added : (edges : List Edge) → edges ≢ [] → ◌≡◌ {A = Pair} (added m s edges) (added_from m s edges (first_leased m edges))
   some_added [] some = absurd (some refl)
   some_added (edge ∷ edges) some = refl

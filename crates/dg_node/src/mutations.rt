@@ -16,8 +16,8 @@ ghost use Rattle.dg_node.specs.Sessions.{IsSession, IsOpen, Serves, session_by, 
 ghost use Rattle.dg_node.specs.Steps.{Spares, MayRaise};
 
 use crate::cluster::{Cluster, ClusterFault};
-use crate::transactions::no_session;
 use crate::new_uids::uids_text;
+use crate::transactions::no_session;
 use dg_edges::{EdgeFault, Resolved, expand, resolve};
 use dg_graph::{Change, Snapshot};
 use dg_nquad::{Mutation, NquadFault, read_mutation};
@@ -156,9 +156,11 @@ fn lease<C: Cluster>(
     }
     let slip = Slip::new(alloc, author)?;
     let count = names.len() as u64;
-    match cluster.lease(slip, resolved.top_uid(), count) {
-        Ok(first) => take(alloc, txn, sid, resolved, names, first),
-        Err(ClusterFault::UidsSpent { next }) => Ok(Reply::Refused(Refusal::UidsSpent { next })),
+    let first = match cluster.lease(slip, resolved.top_uid(), count) {
+        Ok(first) => first,
+        Err(ClusterFault::UidsSpent { next }) => {
+            return Ok(Reply::Refused(Refusal::UidsSpent { next }));
+        }
         Err(
             ClusterFault::OutOfMemory
             | ClusterFault::NoPredicate
@@ -172,7 +174,8 @@ fn lease<C: Cluster>(
             | ClusterFault::TimestampsSpent { .. }
             | ClusterFault::OldCopy { .. },
         ) => unreachable!(),
-    }
+    };
+    take(alloc, txn, sid, resolved, names, first)
 }
 
 // Adds the changes of checked statements to a transaction, with new nodes numbered from `first`, and names these.
