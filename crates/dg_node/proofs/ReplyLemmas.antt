@@ -11,7 +11,6 @@ use Rattle.dg_wire.specs.declared.reply.Reply.TheVariants as replies
 use Rattle.dg_node.specs.Machine.{Machine, Session, session_of, is_open, with_session, without_session, drawn}
 use Rattle.dg_node.specs.Alters.{least_start, first_with_data, present_schema, present_graph, declared, declared_unless, altered}
 use Rattle.dg_node.specs.Transactions.{begun, committed, committed_with, committed_unless, clash_of, with_commit, discarded}
-use Rattle.dg_node.specs.Queries.{queried, answered, answer_in}
 
 abbrev Pair : Type 0
 Pair = Reply × Machine
@@ -66,20 +65,12 @@ module _ (m : Machine) (sid : ℕ) (s : Session) (opens : session_of m sid ≡ S
   commit_spent spent some clear end e =
       unless some ∙ (ap (λ (r : Option Refusal). committed_unless m s r) clear ∙ rw (not_less m.next end, e) refl)
 
-  -- ---- the others
-
-  pub queried_is : (uid : ℕ) (name : List ℕ) → ◌≡◌ {A = Pair} (queried m sid uid name) (answered m sid (answer_in m s uid name))
-  queried_is uid name = rw opens refl
-
 module _ (m : Machine) (sid : ℕ) (closed : session_of m sid ≡ None) where
   pub no_commit : ◌≡◌ {A = Pair} (committed m sid) (replies.Refused (refusals.NoSession sid), m)
   no_commit = rw closed refl
 
   pub no_discard : ◌≡◌ {A = Pair} (discarded m sid) (replies.Refused (refusals.NoSession sid), m)
   no_discard = rw closed refl
-
-  pub no_query : (uid : ℕ) (name : List ℕ) → ◌≡◌ {A = Pair} (queried m sid uid name) (replies.Refused (refusals.NoSession sid), m)
-  no_query uid name = rw closed refl
 
 -- ---- alter
 

@@ -1,56 +1,60 @@
 -- What a query is answered as a session sees it, beside sessions of others.
-use Rattle.std.proofs.Common.{◌≡◌, ℕ, inl, inr, List, Option, Some, None, Ok, Err, refl, ap, subst, sym, ◌∙◌}
-use Rattle.std.specs.Prelude.{◌++◌, Result, IfOk}
-use Rattle.dg_graph.specs.Graphs.{objects}
-use Rattle.dg_schema.specs.Definitions.{definition_of}
-use Rattle.dg_tree.specs.Texts.{answer_text}
+use Rattle.std.proofs.Common.{◌≡◌, ℕ, Bool, true, false, List, length, Option, Some, None, Ok, Err, refl, ap, subst, sym, ◌∙◌}
+use Rattle.std.specs.Prelude.{◌++◌, ◌==◌, Result, IfOk}
+use Rattle.std.specs.Str.Lossy.{utf8_valid_len}
+use Rattle.dg_check.specs.declared.patterns.Refusal.{Refusal as BadPattern}
+use Rattle.dg_graph.specs.declared.change.Triple.{Triple}
+use Rattle.dg_schema.specs.declared.definition.PredDef.{PredDef}
+use Rattle.dg_parse.specs.Whole.{query_of}
 use Rattle.dg_wire.specs.declared.refusal.Refusal.TheVariants as refusals
 use Rattle.dg_wire.specs.declared.reply.Reply.{Reply}
 use Rattle.dg_wire.specs.declared.reply.Reply.TheVariants as replies
 use Rattle.dg_zero.specs.Legal.{IsLegal}
 use Rattle.dg_zero.specs.States.{Zero}
 use Rattle.dg_txn.specs.Own.{Transaction, graph}
-use Rattle.dg_node.specs.Answers.{shown, block_of}
-use Rattle.dg_node.specs.Bodies.{Asks}
-use Rattle.dg_node.specs.Machine.{Machine}
-use Rattle.dg_node.specs.Queries.{answered, queried, Queries}
+use Rattle.dg_node.specs.Machine.{Machine, Session, session_of}
+use Rattle.dg_node.specs.Queries.{Queries, QueriesIn, QueriesText, QueriesAs}
 use Rattle.dg_node.specs.Sessions.{IsOpen, session_by, own_session, between, Sees}
 use Rattle.dg_node.specs.State.{machine_beside}
 use Rattle.dg_node.proofs.Between.{none_found, both_others}
 use Rattle.dg_node.proofs.Mutating.{schema_here, graph_here}
-use Rattle.dg_node.proofs.ReplyLemmas.{no_query, queried_is}
 use Rattle.dg_node.proofs.Serving.{finds_own}
 
-abbrev Pair : Type 0
-Pair = Reply × Machine
+module _ (list : List BadPattern) (sid : ℕ) (body : List ℕ) where
+  -- where the session has no transaction
+  pub none_sees : (session : Option Transaction) (reply : Reply) (z : Zero) → session ≡ None → reply ≡ replies.Refused (refusals.NoSession sid) → Sees sid session (λ m n. Queries list m sid body reply n) z
+  none_sees (Some txn) reply z e is = absurd (cc)
+  none_sees None reply z e is = λ front back a b.
+      let m = machine_beside z (front ++ back) in
+      subst (λ (s : Option Session). QueriesIn list m sid s body reply m) (sym (none_found sid (front ++ back) (both_others sid front back a b))) (ap (λ (p : Reply). (p, m)) (sym is))
 
--- where the session has no transaction
-pub none_sees : (sid uid : ℕ) (name : List ℕ) (session : Option Transaction) (reply : Reply) (z : Zero) → session ≡ None → reply ≡ replies.Refused (refusals.NoSession sid) → Sees sid session (λ m n. ◌≡◌ {A = Pair} (queried m sid uid name) (reply, n)) z
-none_sees sid uid name (Some txn) reply z e is = absurd (cc)
-none_sees sid uid name None reply z e is = λ front back a b.
-    let m = machine_beside z (front ++ back) in
-    no_query m sid (none_found sid (front ++ back) (both_others sid front back a b)) uid name ∙ ap (λ (p : Reply). (p, m)) (sym is)
+  -- what is said of the schema and the graph that the transaction has
+  pub text_sees : {E : Type 0} (r : Result Reply E) (session : Option Transaction) (txn : Transaction) → session ≡ Some txn
+      → ((m : Machine) → IfOk r (λ p. QueriesText list m sid txn.schema (graph txn) body (utf8_valid_len body == length body) p m))
+      → (author : ℕ) (z : Zero) → IsLegal z.groups z.history → IsOpen z.history author txn → IfOk r (λ p. Sees sid session (λ m n. Queries list m sid body p n) z)
+  text_sees (Err x) session txn e answers author z legal opens = tt
+  text_sees (Ok p) None txn e answers author z legal opens = absurd (cc)
+  text_sees (Ok p) (Some other) txn e answers author z legal opens = λ front back a b.
+      let same : other ≡ txn = cc in
+      let ss = between front (own_session sid (Some txn)) back in
+      let m = machine_beside z ss in
+      let whole = utf8_valid_len body == length body in
+      let schema_is = schema_here author txn z legal opens ss in
+      let graph_is = graph_here author txn z legal opens ss in
+      let seen = subst (λ (ds : List PredDef). QueriesText list m sid ds (graph txn) body whole p m) (sym schema_is) (answers m) in
+      let there = subst (λ (g : List Triple). QueriesText list m sid _ g body whole p m) (sym graph_is) seen in
+      let found = subst (λ (s : Option Session). QueriesIn list m sid s body p m) (sym (finds_own sid txn z front back a)) there in
+      subst (λ (t : Transaction). Queries list (machine_beside z (between front (own_session sid (Some t)) back)) sid body p (machine_beside z (between front (own_session sid (Some t)) back))) (sym same) found
 
--- the text of the answer, over the schema and the graph that the transaction has
-pub text_sees : {E : Type 0} (r : Result Reply E) (sid uid : ℕ) (name text : List ℕ) (session : Option Transaction) (txn : Transaction) → session ≡ Some txn → text ≡ answer_text (block_of name (shown (definition_of txn.schema name) (objects (graph txn) name uid))) → ((m : Machine) → IfOk r (λ p. ◌≡◌ {A = Pair} (answered m sid text) (p, m))) → (author : ℕ) (z : Zero) → IsLegal z.groups z.history → IsOpen z.history author txn → IfOk r (λ p. Sees sid session (λ m n. ◌≡◌ {A = Pair} (queried m sid uid name) (p, n)) z)
-text_sees (Err x) sid uid name text session txn e is answers author z legal opens = tt
-text_sees (Ok p) sid uid name text None txn e is answers author z legal opens = absurd (cc)
-text_sees (Ok p) sid uid name text (Some other) txn e is answers author z legal opens = λ front back a b.
-    let same : other ≡ txn = cc in
-    let ss = between front (own_session sid (Some txn)) back in
-    let m = machine_beside z ss in
-    let schema_is = schema_here author txn z legal opens ss in
-    let graph_is = graph_here author txn z legal opens ss in
-    subst (λ (t : Transaction). ◌≡◌ {A = Pair} (queried (machine_beside z (between front (own_session sid (Some t)) back)) sid uid name) (p, machine_beside z (between front (own_session sid (Some t)) back))) (sym same)
-    (queried_is m sid (session_by sid txn) (finds_own sid txn z front back a) refl uid name
-    ∙ (ap (answered m sid) ((λ i. answer_text (block_of name (shown (definition_of (schema_is i) name) (objects (graph_is i) name uid)))) ∙ sym is) ∙ answers m))
+  -- a body that is a text
+  pub text_whole : {E : Type 0} (r : Result Reply E) (m : Machine) (schema : List PredDef) (g : List Triple) (text : List ℕ) → (utf8_valid_len body == length body) ≡ true → text ≡ body
+      → IfOk r (λ p. QueriesAs list m sid schema g (query_of text) p m) → IfOk r (λ p. QueriesText list m sid schema g body (utf8_valid_len body == length body) p m)
+  text_whole r m schema g text whole e said =
+      subst (λ (v : Bool). IfOk r (λ p. QueriesText list m sid schema g body v p m)) (sym whole)
+      (subst (λ (t : List ℕ). IfOk r (λ p. QueriesAs list m sid schema g (query_of t) p m)) e said)
 
--- ---- by what the body asks for
-
-pub asked_sees : {E : Type 0} (r : Result Reply E) (sid : ℕ) (session : Option Transaction) (body : List ℕ) (uid : ℕ) (name : List ℕ) (z : Zero) → Asks body uid name → IfOk r (λ p. Sees sid session (λ m n. ◌≡◌ {A = Pair} (queried m sid uid name) (p, n)) z) → IfOk r (λ p. Sees sid session (λ m n. Queries m sid body p n) z)
-asked_sees (Err x) sid session body uid name z form sees = tt
-asked_sees (Ok p) sid session body uid name z form sees = λ front back a b. inl (record { uid = uid; name = name; form = form; outcome = sees front back a b })
-
-pub unbuilt_sees : (sid : ℕ) (session : Option Transaction) (body : List ℕ) (reply : Reply) (z : Zero) → ((uid : ℕ) (name : List ℕ) → ¬ Asks body uid name) → reply ≡ replies.Refused refusals.Unbuilt → Sees sid session (λ m n. Queries m sid body reply n) z
-unbuilt_sees sid session body reply z other is = λ front back a b.
-    inr (record { other = other; outcome = ap (λ (p : Reply). (p, machine_beside z (between front (own_session sid session) back))) (sym is) })
+  -- a body that is none
+  pub text_not_whole : (m : Machine) (schema : List PredDef) (g : List Triple) (reply : Reply) → (utf8_valid_len body == length body) ≡ false → reply ≡ replies.Refused (refusals.BadToken (utf8_valid_len body))
+      → QueriesText list m sid schema g body (utf8_valid_len body == length body) reply m
+  text_not_whole m schema g reply not_whole is =
+      subst (λ (v : Bool). QueriesText list m sid schema g body v reply m) (sym not_whole) (ap (λ (p : Reply). (p, m)) (sym is))

@@ -2,21 +2,14 @@
 use Rattle.std.proofs.Common.{◌≡◌, ℕ, true, not, List, length, refl, ap, sym, ◌∙◌, arith}
 use Rattle.std.specs.Prelude.{◌==◌}
 use Rattle.std.specs.Str.{IsUtf8}
-use Rattle.std.proofs.lemmas.Bool.{and_parts}
 use Rattle.std.specs.Str.Lossy.{utf8_valid_len}
 use Rattle.std.proofs.lemmas.Grind.{common_steps}
 use Rattle.std.proofs.lemmas.Str.{utf8_valid_len-IsUtf8}
-use Rattle.dg_wire.specs.Names.{is_name}
-use Rattle.dg_wire.proofs.NameLemmas.{name_text}
 use Rattle.dg_schema.specs.Whole.{schema}
 use Rattle.dg_wire.specs.declared.reply.Reply.{Reply}
 use Rattle.dg_node.specs.Alters.{alters, altered_by}
-use Rattle.dg_node.specs.Bodies.{is_predicate, is_reserved}
 use Rattle.dg_node.specs.Machine.{Machine}
 use Rattle.dg_node.specs.Texts.{by_text}
-
-pub predicate_text : (name : List ℕ) → is_predicate name ≡ true → IsUtf8 name
-predicate_text name h = name_text name (and_parts (is_name name) (not (is_reserved name)) h).0
 
 -- ---- a body that is a text
 

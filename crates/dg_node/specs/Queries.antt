@@ -21,7 +21,8 @@ use Rattle.dg_node.specs.Graphs.{graph_at}
 use Rattle.dg_node.specs.Schemas.{schema_at}
 use Rattle.dg_node.specs.Machine.{Machine, Session, session_of}
 use Rattle.dg_node.specs.Replying.{refused, IsUnbuilt}
-use Rattle.dg_node.specs.Flat.{is_flat, flat_answer}
+use Rattle.dg_node.specs.Flat.{is_flat}
+use Rattle.dg_node.specs.FlatAnswers.{flat_answer}
 
 -- the most bytes that the text of an answer may have
 abbrev pub ANSWER_LIMIT : ℕ

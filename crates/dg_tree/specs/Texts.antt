@@ -26,9 +26,13 @@ array_text trees = codes "[" ++ (with_commas trees ++ codes "]")
 abbrev pub object_text : List (List ℕ) → List ℕ
 object_text fields = codes "{" ++ (with_commas fields ++ codes "}")
 
--- the text of a field, by that of its tree: the key as a string of JSON (RFC 8259, section 7), a colon and the tree
+-- the text of a key: a string of JSON (RFC 8259, section 7), and a colon
+abbrev pub key_text : List ℕ → List ℕ
+key_text key = quoted key ++ codes ":"
+
+-- the text of a field, by that of its tree: the key and the tree
 abbrev pub text_of_field : Field-F (List ℕ) (List ℕ) → List ℕ
-text_of_field field = quoted field.key ++ (codes ":" ++ field.tree)
+text_of_field field = key_text field.key ++ field.tree
 
 -- the text of a tree, by those of the trees and fields in it
 abbrev pub text_of_tree : Tree-F (List ℕ) (List ℕ) → List ℕ
