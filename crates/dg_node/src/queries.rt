@@ -17,6 +17,7 @@ use crate::flat::{flat_answer, is_flat};
 use crate::step::unbuilt;
 use crate::transactions::no_session;
 use dg_check::{CheckFault, Patterns, Plan, check};
+use dg_graph::Snapshot;
 use dg_parse::{DqlFault, Query, parse};
 use dg_tree::TreeFault;
 use dg_txn::Txn;
