@@ -1,5 +1,6 @@
 -- What a commit makes of its session, the history and the machine, by what the cluster answers.
 use Rattle.std.proofs.Common.{◌≡◌, ◌≢◌, ℕ, Bool, true, false, cond, List, [], Option, Some, None, Ok, Err, refl, ap, subst, sym, ◌∙◌}
+use Rattle.std.specs.Prelude.{Result, IfOk, OnErr}
 use Rattle.dg_wire.specs.declared.reply.Reply.{Reply}
 use Rattle.dg_wire.specs.declared.reply.Reply.TheVariants as replies
 use Rattle.dg_zero.specs.declared.entry.Event.TheVariants.{Look}
@@ -105,3 +106,16 @@ module _ (takes : ℕ → Bool) (author sid : ℕ) (own : takes author ≡ true)
 
       pub refused_session : IsLegal w.groups w.history → IsSession w author new
       refused_session legal = subst (IsSession w author) (sym new_is) (session_at fault m.goes.fault legal)
+
+      -- by what is answered
+      pub refused_by : {E : Type 0} (r : Result Reply E) (old : Option Transaction) → old ≡ Some txn → txn.own ≢ [] → IfOk r (λ reply. reply_to fault ≡ Some reply) → IfOk r (λ reply. Meets takes z w (Serves author sid old new (λ m n. ◌≡◌ {A = Pair} (committed m sid) (reply, n))))
+      refused_by (Ok reply) old old_is some said = subst (λ (x : Option Transaction). Meets takes z w (Serves author sid x new (λ m n. ◌≡◌ {A = Pair} (committed m sid) (reply, n)))) (sym old_is) (refused_meets reply some said)
+      refused_by (Err x) old old_is some said = tt
+
+      pub wanting_by : {E : Type 0} (r : Result Reply E) (old : Option Transaction) → old ≡ Some txn → OnErr r (reply_to fault ≡ None) → OnErr r (Meets takes z w (Serves author sid old new (λ m n. n ≡ m)))
+      wanting_by (Ok reply) old old_is said = tt
+      wanting_by (Err x) old old_is said = subst (λ (y : Option Transaction). Meets takes z w (Serves author sid y new (λ m n. n ≡ m))) (sym old_is) (wanting_meets said)
+
+      pub kept_by : {E : Type 0} (r : Result Reply E) (old : Option Transaction) → old ≡ Some txn → OnErr r (reply_to fault ≡ None) → OnErr r (new ≡ old)
+      kept_by (Ok reply) old old_is said = tt
+      kept_by (Err x) old old_is said = wanting_kept said ∙ sym old_is
