@@ -33,8 +33,8 @@ returns-in_err-reply-clause-err c =
     (subst (λ (l : List Slot). Leads (held_by c.self.inside.cluster slots) (λ (m n : Machine). Spares (requests.Begin c.args.sid) m n) (held_by c.begin.new.cluster l)) (sym c.reserve.ensures.items)
     (spared_leads c.args.sid c.self.inside.cluster c.begin.new.cluster slots c.in_err-reply.ensures.err)))
 
-pub invariant_of-self : goal.invariant_of-self
-invariant_of-self c =
+pub invariant_of-self-2 : goal.invariant_of-self-2
+invariant_of-self-2 c =
     let z = c.self.inside.cluster in
     let w = c.begin.new.cluster in
     let slots = c.self.inside.slots.items in
