@@ -11,13 +11,14 @@ use Rattle.dg_zero.proofs.Committing.{active_from}
 use Rattle.dg_txn.specs.Own.{Transaction}
 use Rattle.dg_node.specs.Clusters.{AreOthers, Meets, EndsAt}
 use Rattle.dg_node.specs.Machine.{Machine, Session, without_session}
-use Rattle.dg_node.specs.Sessions.{IsOpen, IsSession, HaveOthers, Serves}
+use Rattle.dg_node.specs.Sessions.{IsOpen, IsSession, HaveOthers, Serves, session_by}
 use Rattle.dg_node.specs.State.{machine_beside}
-use Rattle.dg_node.specs.Transactions.{discarded}
+use Rattle.dg_node.specs.Transactions.{committed, discarded}
 use Rattle.dg_node.proofs.Between.{both_others}
 use Rattle.dg_node.proofs.CommitLemmas.{end_quiet}
 use Rattle.dg_node.proofs.Opens.{open_met}
 use Rattle.dg_node.proofs.Alone.{meets_here}
+use Rattle.dg_node.proofs.ReplyLemmas.{nothing_committed}
 use Rattle.dg_node.proofs.Serving.{Finds, meets_by, serves_nothing, ended_serves}
 
 abbrev Pair : Type 0
@@ -46,3 +47,13 @@ closed_serves takes author sid old new txn before w was step own old_is new_is s
 -- a discard
 pub discard_found : (m : Machine) (sid : ℕ) (txn : Transaction) → Finds sid txn m → ◌≡◌ {A = Pair} (discarded m sid) (replies.Discard sid, without_session m sid)
 discard_found m sid txn found = rw found refl
+
+-- a session, by what it was and what it is
+pub serves_as : (takes : ℕ → Bool) (author sid : ℕ) (before w : Zero) (step : Machine → Machine → Type 0) (old was new is : Option Transaction) → old ≡ was → new ≡ is → Meets takes before w (Serves author sid was is step) → Meets takes before w (Serves author sid old new step)
+serves_as takes author sid before w step old was new is old_is new_is m =
+    subst (λ (x : Option Transaction). Meets takes before w (Serves author sid x new step)) (sym old_is)
+    (subst (λ (x : Option Transaction). Meets takes before w (Serves author sid was x step)) (sym new_is) m)
+
+-- a commit of nothing
+pub nothing_found : (m : Machine) (sid : ℕ) (txn : Transaction) → txn.own ≡ [] → Finds sid txn m → ◌≡◌ {A = Pair} (committed m sid) (replies.Commit sid 0, without_session m sid)
+nothing_found m sid txn none found = nothing_committed m sid (session_by sid txn) found refl none

@@ -18,7 +18,7 @@ use Rattle.dg_wire.specs.declared.reply.Reply.{Reply}
 use Rattle.dg_wire.specs.declared.reply.Reply.TheVariants as replies
 use Rattle.dg_zero.specs.declared.entry.Entry.{Entry}
 use Rattle.dg_zero.specs.declared.entry.Event.TheVariants.{Lease}
-use Rattle.dg_zero.specs.Counters.{next, next_uid, leased, active}
+use Rattle.dg_zero.specs.Counters.{next, next_uid, leased}
 use Rattle.dg_zero.specs.Legal.{IsLegal}
 use Rattle.dg_zero.specs.States.{Zero, and_then}
 use Rattle.dg_txn.specs.Own.{Transaction, graph}

@@ -1,5 +1,7 @@
 -- What a commit makes of its session, the history and the machine, by what the cluster answers.
 use Rattle.std.proofs.Common.{◌≡◌, ◌≢◌, ℕ, Bool, true, false, cond, List, [], Option, Some, None, Ok, Err, refl, ap, subst, sym, ◌∙◌}
+use Rattle.std.specs.Prelude.{Result, IfOk, OnErr}
+use Rattle.dg_wire.specs.declared.refusal.Refusal.TheVariants as refusals
 use Rattle.dg_wire.specs.declared.reply.Reply.{Reply}
 use Rattle.dg_wire.specs.declared.reply.Reply.TheVariants as replies
 use Rattle.dg_zero.specs.declared.entry.Event.TheVariants.{Look}
@@ -54,15 +56,15 @@ module _ (takes : ℕ → Bool) (author sid : ℕ) (own : takes author ≡ true)
     -- it is refused: the session ends, or stays as it was
     refused_at : (fault : CommitFault) (reply : Reply) (met : Zero) → AreOthers takes z met → txn.own ≢ [] → reply_to fault ≡ Some reply → IsRefusal met w author offer fault → Serves author sid (Some txn) (cond (is_ended fault) None (Some txn)) (λ m n. ◌≡◌ {A = Pair} (committed m sid) (reply, n)) met w
     refused_at (Conflict key text ts) reply met others some said is =
-        let reply_is = cc in
+        let reply_is : replies.Refused (refusals.Conflict ts text) ≡ reply = cc in
         subst (λ (p : Reply). Serves author sid (Some txn) None (λ m n. ◌≡◌ {A = Pair} (committed m sid) (p, n)) met w) reply_is
         (conflict_serves author sid txn met others.legal (open_there met others) offer (there met others) key ts text w is.1 is.2 is.0 some)
     refused_at (Moving pred) reply met others some said is =
-        let reply_is = cc in
+        let reply_is : replies.Refused (refusals.Moving pred) ≡ reply = cc in
         subst (λ (p : Reply). Serves author sid (Some txn) None (λ m n. ◌≡◌ {A = Pair} (committed m sid) (p, n)) met w) reply_is
         (moving_serves author sid txn met others.legal (open_there met others) offer (there met others) pred w is.1 is.0)
     refused_at (TimestampsSpent spent back) reply met others some said is =
-        let reply_is = cc in
+        let reply_is : replies.Refused (refusals.TimestampsSpent spent) ≡ reply = cc in
         subst (λ (p : Reply). Serves author sid (Some txn) (Some txn) (λ m n. ◌≡◌ {A = Pair} (committed m sid) (p, n)) met w) reply_is
         (looked_serves author sid (Some txn) _ met w others.legal is.4 (spent_sees author sid txn met others.legal (open_there met others) offer (there met others) spent is.0 is.1 is.2 some))
     refused_at (OutOfMemory back) reply met others some said is = absurd (cc)
@@ -105,3 +107,16 @@ module _ (takes : ℕ → Bool) (author sid : ℕ) (own : takes author ≡ true)
 
       pub refused_session : IsLegal w.groups w.history → IsSession w author new
       refused_session legal = subst (IsSession w author) (sym new_is) (session_at fault m.goes.fault legal)
+
+      -- by what is answered
+      pub refused_by : {E : Type 0} (r : Result Reply E) (old : Option Transaction) → old ≡ Some txn → txn.own ≢ [] → IfOk r (λ reply. reply_to fault ≡ Some reply) → IfOk r (λ reply. Meets takes z w (Serves author sid old new (λ m n. ◌≡◌ {A = Pair} (committed m sid) (reply, n))))
+      refused_by (Ok reply) old old_is some said = subst (λ (x : Option Transaction). Meets takes z w (Serves author sid x new (λ m n. ◌≡◌ {A = Pair} (committed m sid) (reply, n)))) (sym old_is) (refused_meets reply some said)
+      refused_by (Err x) old old_is some said = tt
+
+      pub wanting_by : {E : Type 0} (r : Result Reply E) (old : Option Transaction) → old ≡ Some txn → OnErr r (reply_to fault ≡ None) → OnErr r (Meets takes z w (Serves author sid old new (λ m n. n ≡ m)))
+      wanting_by (Ok reply) old old_is said = tt
+      wanting_by (Err x) old old_is said = subst (λ (y : Option Transaction). Meets takes z w (Serves author sid y new (λ m n. n ≡ m))) (sym old_is) (wanting_meets said)
+
+      pub kept_by : {E : Type 0} (r : Result Reply E) (old : Option Transaction) → old ≡ Some txn → OnErr r (reply_to fault ≡ None) → OnErr r (new ≡ old)
+      kept_by (Ok reply) old old_is said = tt
+      kept_by (Err x) old old_is said = wanting_kept said ∙ sym old_is

@@ -110,14 +110,14 @@ all_active (s ∷ slots) = (
 
 module _ (z w : Zero) (adds : Adds 0 z w) (legal : IsLegal w.groups w.history) where
   longer : (t : Option Transaction) → IsSession z 0 t → IsActiveIn (active w.history) t → IsSession w 0 t
-  longer None is active = tt
-  longer (Some txn) is active =
+  longer None is there = tt
+  longer (Some txn) is there =
       subst (λ (h : List Entry). IsOpen h 0 txn) (sym adds.history_is)
-      (open_longer w.groups z.history adds.entries 0 txn (subst (λ (h : List Entry). IsLegal w.groups h) adds.history_is legal) (subst (λ (h : List Entry). is_active_of (active h) txn.start 0 ≡ true) adds.history_is active) is)
+      (open_longer w.groups z.history adds.entries 0 txn (subst (λ (h : List Entry). IsLegal w.groups h) adds.history_is legal) (subst (λ (h : List Entry). is_active_of (active h) txn.start 0 ≡ true) adds.history_is there) is)
 
   each_longer : (slots : List Slot) → AllByRecursion (λ (s : Slot). IsSession z 0 s.txn) slots → AllByRecursion (λ (s : Slot). IsActiveIn (active w.history) s.txn) slots → AllByRecursion (λ (s : Slot). IsSession w 0 s.txn) slots
-  each_longer [] each active = tt
-  each_longer (s ∷ slots) each active = (longer s.txn each.0 active.0, each_longer slots each.1 active.1)
+  each_longer [] each there = tt
+  each_longer (s ∷ slots) each there = (longer s.txn each.0 there.0, each_longer slots each.1 there.1)
 
   actives : (slots : List Slot) → active w.history ≡ starts_in slots → AllByRecursion (λ (s : Slot). IsActiveIn (active w.history) s.txn) slots
   actives slots now = subst (λ (ts : List Started). AllByRecursion (λ (s : Slot). IsActiveIn ts s.txn) slots) (sym now) (all_active slots)

@@ -1,14 +1,21 @@
 // The state that coordinates all, and the groups that follow it.
-ghost use Rattle.std.specs.Prelude.{◌≡◌, ◌-◌, ◌^◌, ◌<◌, ◌≤◌, [], None, IfOk, IfErr, OnOk};
+ghost use Rattle.std.specs.Prelude.{◌≡◌, ◌+◌, ◌-◌, ◌^◌, ◌<◌, ◌≤◌, [], true, None, Some, IfOk, IfErr, OnOk, OnErr, if◌then◌else◌};
+ghost use Rattle.std.specs.Arc.{arc_value};
 ghost use Rattle.dg_graph.specs.Graphs.{IsLawful};
+ghost use Rattle.dg_oracle.specs.Commits.{is_active};
 ghost use Rattle.dg_schema.specs.Definitions.{with_definitions};
+ghost use Rattle.dg_txn.specs.Pins.{ArePinsOf};
+ghost use Rattle.dg_zero.specs.Counters.{next, next_uid, leased, active, starts_of, is_active_of};
 ghost use Rattle.dg_zero.specs.Legal.{IsLegal};
 ghost use Rattle.dg_zero.specs.Listings.{AreGainsAndLosses};
+ghost use Rattle.dg_zero.specs.Offers.{IsSound, IsMadeOf};
 ghost use Rattle.dg_zero.specs.Pasts.{spent};
-ghost use Rattle.dg_zero.specs.States.{AreAlterParts};
-ghost use Rattle.dg_zero.specs.Worlds.{world, schema};
+ghost use Rattle.dg_zero.specs.Places.{tablets};
+ghost use Rattle.dg_zero.specs.States.{and_then, owners, alter_of, commit_of, first_held, IsBeginFault, IsAlterFault, IsRefusal, KeepKinds, AreAlterParts};
+ghost use Rattle.dg_zero.specs.Verdicts.{verdict};
 ghost use Rattle.dg_node.specs.Alters.{first_with_data};
-ghost use Rattle.dg_node.specs.Clusters.{IsAlterFault as IsHindrance};
+ghost use Rattle.dg_node.specs.Clusters.{Meets, EndsAt, IsAlterFault as IsHindrance};
+ghost use Rattle.dg_zero.specs.Worlds.{world, schema, schema_at, graph_at};
 ghost use Rattle.dg_node.specs.Owning.{AreAtRest};
 
 use crate::cluster::{Cluster, ClusterFault};
@@ -20,7 +27,7 @@ use dg_keys::Part;
 use dg_schema::Schema;
 use dg_txn::Present;
 use dg_values::{List, Mem, OutOfMemory, Steps};
-use dg_zero::{Begun, CommitFault, Offer, Slip, ZeroState};
+use dg_zero::{Begun, CommitFault, Event, Offer, Slip, ZeroFault, ZeroState};
 use std::alloc::Global;
 use std::marker::{Brand, Model};
 use std::sync::Arc;
@@ -81,6 +88,32 @@ impl Owned {
         self.groups.as_slice()
     }
 
+    /// Brings each group up to date and pins it, and draws a start, whose transaction is active from then on. The pins hold
+    /// the graph there.
+    ///
+    /// `TimestampsSpent` comes where no timestamp is left. After an error a look is appended, and nothing is drawn;
+    /// after want of memory some groups may be further on.
+    pub fn begin(&mut self, alloc: Global, slip: Slip) -> Result<(Begun, Vec<Pinned>), ZeroFault>
+        ensures start { IfOk result (λ b. b.0.start ≡ next self.old.history) }
+        ensures schema { IfOk result (λ b. arc_value b.0.schema ≡ schema self.old.history) }
+        ensures owners { IfOk result (λ b. arc_value b.0.owners ≡ owners self.old.history) }
+        ensures pins { IfOk result (λ b. ArePinsOf (next self.old.history) (schema self.old.history) (owners self.old.history) b.1.items (graph_at self.old.history (next self.old.history) [])) }
+        ensures ok { OnOk result (self.new ≡ and_then self.old slip (Event.Begin (next self.old.history))) }
+        ensures not_spent { OnOk result (next self.old.history < 2 ^ 62) }
+        ensures fault { IfErr result (IsBeginFault (next self.old.history)) }
+        ensures err { OnErr result (self.new ≡ and_then self.old slip Event.Look) }
+        ensures legal { IsLegal self.new.groups self.new.history }
+    {
+        let Ok(pins) = pinned(alloc, &self.zero, &mut self.groups) else {
+            self.zero.look(slip);
+            return Err(ZeroFault::OutOfMemory);
+        };
+        match self.zero.begin(slip) {
+            Ok(begun) => Ok((begun, pins)),
+            Err(fault) => Err(fault),
+        }
+    }
+
     /// The present graph, which is read from pins of the groups, each of which is brought up to date first. Nothing is appended.
     /// The error is want of memory; after it some groups may be further on.
     pub fn present(&mut self, alloc: Global) -> Mem<Present>
@@ -91,6 +124,46 @@ impl Owned {
         let schema = Arc::try_clone(self.zero.schema())?;
         let owners = Arc::try_clone(self.zero.owners())?;
         Ok(Present::of(schema, owners, pins, self.zero.last()))
+    }
+
+    /// Ends a transaction, and says whether it was active; where it wasn't, a look is appended. It takes no memory.
+    pub fn end(&mut self, slip: Slip, start: u64) -> bool
+        requires author { is_active (starts_of (active self.old.history)) start ≡ true → is_active_of (active self.old.history) start slip ≡ true }
+        ensures was_active { result ≡ is_active (starts_of (active self.old.history)) start }
+        ensures history { self.new ≡ and_then self.old slip (if result then Event.End start else Event.Look) }
+        ensures legal { IsLegal self.new.groups self.new.history }
+    {
+        self.zero.end(slip, start)
+    }
+
+    /// Leases `count` nodes above `top` and above all that were leased, and answers the first. `UidsSpent` comes exactly
+    /// where so many aren't left, with the next node; then a look is appended. It takes no memory.
+    pub fn lease(&mut self, slip: Slip, top: u64, count: u64) -> Result<u64, ZeroFault>
+        ensures first { IfOk result (λ first. leased self.old.history top count ≡ Some first) }
+        ensures spent { IfErr result (λ fault. (leased self.old.history top count ≡ None) × (fault ≡ ZeroFault.UidsSpent (next_uid self.old.history))) }
+        ensures ok { IfOk result (λ first. self.new ≡ and_then self.old slip (Event.Lease top count first)) }
+        ensures err { OnErr result (self.new ≡ and_then self.old slip Event.Look) }
+        ensures legal { IsLegal self.new.groups self.new.history }
+    {
+        self.zero.lease(slip, top, count)
+    }
+
+    /// Commits an offer at the next timestamp, or says why not. The groups apply it when they are next brought up to date.
+    ///
+    /// After `Conflict` and `Moving` the transaction has ended, and the refusal is appended. After `TimestampsSpent` and
+    /// `OutOfMemory`, which hand the offer back, it is still active, and a look is appended.
+    pub fn commit(&mut self, slip: Slip, offer: Offer) -> Result<u64, CommitFault>
+        requires active { is_active_of (active self.old.history) offer.start slip ≡ true }
+        requires sound { IsSound (schema_at self.old.history offer.start) (graph_at self.old.history offer.start []) offer.preds offer.keys offer.parts }
+        requires made_of { IsMadeOf (schema_at self.old.history offer.start) (graph_at self.old.history offer.start []) offer.changes offer.keys offer.parts }
+        ensures ts { IfOk result (λ ts. ts ≡ next self.old.history) }
+        ensures ok { IfOk result (λ ts. self.new ≡ and_then self.old slip (commit_of offer ts)) }
+        ensures clear { OnOk result (verdict self.old.history offer.start offer.preds offer.keys ≡ None) }
+        ensures not_spent { OnOk result (next self.old.history < 2 ^ 62) }
+        ensures fault { IfErr result (IsRefusal self.old self.new slip offer) }
+        ensures legal { IsLegal self.new.groups self.new.history }
+    {
+        self.zero.commit(slip, offer)
     }
 
     /// The history is legal, and no tablet is being moved, since moves aren't built.

@@ -47,7 +47,8 @@ pub fn begin<C: Cluster>(
     match cluster.begin(alloc, slip) {
         Ok((begun, pins)) => {
             let start = begun.start;
-            *session = Some(make(alloc, cluster, begun, pins, end)?);
+            let txn = make(alloc, cluster, begun, pins, end)?;
+            put(session, txn);
             Ok(Reply::Begin { sid, start })
         }
         Err(ClusterFault::TimestampsSpent { next }) => {
@@ -168,7 +169,7 @@ pub fn commit<C: Cluster>(
     let offer = txn.offer(alloc)?;
     match cluster.commit(slip, offer) {
         Ok(ts) => {
-            *session = None;
+            clear(session);
             Ok(Reply::Commit { sid, ts })
         }
         Err(fault) => uncommitted(session, fault),
@@ -183,11 +184,11 @@ fn uncommitted(session: &mut Option<Txn>, fault: CommitFault) -> Mem<Reply>
 {
     match fault {
         CommitFault::Conflict { ts, text, .. } => {
-            *session = None;
+            clear(session);
             Ok(Reply::Refused(Refusal::Conflict { ts, key: text }))
         }
         CommitFault::Moving { pred } => {
-            *session = None;
+            clear(session);
             Ok(Reply::Refused(Refusal::Moving { pred }))
         }
         CommitFault::TimestampsSpent { next, .. } => {
@@ -213,10 +214,25 @@ fn commit_nothing<C: Cluster>(
     ensures closed { session.new ≡ None }
     ensures legal { IsLegal (C.zero cluster.new).groups (C.zero cluster.new).history }
 {
-    if let Some(txn) = session.take() {
-        close(cluster, txn);
-    }
+    let Some(txn) = session.take() else {
+        unreachable!()
+    };
+    close(cluster, txn);
     Reply::Commit { sid, ts: 0 }
+}
+
+// The session has a transaction.
+fn put(session: &mut Option<Txn>, txn: Txn)
+    ensures { session.new ≡ Some txn }
+{
+    *session = Some(txn);
+}
+
+// The session has none any more.
+fn clear(session: &mut Option<Txn>)
+    ensures { session.new ≡ None }
+{
+    *session = None;
 }
 
 /// The session has no transaction.

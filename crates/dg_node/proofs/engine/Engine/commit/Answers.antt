@@ -23,8 +23,8 @@ returns-in_default-clause-ok c =
     (missing_leads z slots sid c.self.invariant none (λ (m n : Machine). ◌≡◌ {A = Reply × Machine} (committed m sid) (c.no_session.result, n))
     (λ m e. no_commit m sid e ∙ ap (λ (p : Reply). (p, m)) (sym c.no_session.ensures)))
 
-pub commit-requires-clause-session : goal.commit-requires-clause-session
-commit-requires-clause-session c =
+pub commit-reply-requires-clause-session : goal.commit-reply-requires-clause-session
+commit-reply-requires-clause-session c =
     let z = c.self.inside.cluster in
     let slots = c.self.inside.slots.items in
     let sid = c.args.sid in

@@ -24,8 +24,8 @@ returns-in_default c =
     (missing_leads z slots sid c.self.invariant none (λ (m n : Machine). ◌≡◌ {A = Reply × Machine} (discarded m sid) (c.no_session.result, n))
     (λ m e. no_discard m sid e ∙ ap (λ (p : Reply). (p, m)) (sym c.no_session.ensures)))
 
-pub discard-requires-clause-session : goal.discard-requires-clause-session
-discard-requires-clause-session c =
+pub discard-reply-requires-clause-session : goal.discard-reply-requires-clause-session
+discard-reply-requires-clause-session c =
     let z = c.self.inside.cluster in
     let slots = c.self.inside.slots.items in
     let sid = c.args.sid in
