@@ -1,5 +1,5 @@
 -- A filter of a plan means what that of the text does.
-use Rattle.std.proofs.Common.{◌≡◌, ℕ, Bool, false, List, [], ◌∷◌, map, refl, ap, sym, ◌∙◌}
+use Rattle.std.proofs.Common.{◌≡◌, ℕ, Bool, false, List, ◌∷◌, map, refl, ap, sym, ◌∙◌}
 use Rattle.std.specs.List.{list_any, list_all}
 use Rattle.dg_schema.specs.declared.definition.PredDef.{PredDef}
 use Rattle.dg_graph.specs.declared.change.Triple.{Triple}
@@ -10,9 +10,7 @@ use Rattle.dg_parse.specs.declared.query.QPart.{QPart, QPart-F, fold-roll-QPart}
 use Rattle.dg_parse.specs.declared.query.QPart.TheFolds.{fold_out-QFilter}
 use Rattle.dg_parse.specs.declared.query.QPart.TheVariants as said
 use Rattle.dg_check.specs.declared.parts.Filter.{Filter}
-use Rattle.dg_check.specs.declared.parts.Func.{Func}
 use Rattle.dg_check.specs.declared.parts.Part.{Part}
-use Rattle.dg_check.specs.declared.parts.Part.TheVariants as pieces
 use Rattle.dg_check.specs.declared.vars.Variable.{Variable}
 use Rattle.dg_check.specs.Parts.{IsFilterOf, negated, IsPartOf, any, each, one, AreFiltersOf, no_filter, more_filters}
 use Rattle.dg_check.specs.Variables.{Definition, names_for}

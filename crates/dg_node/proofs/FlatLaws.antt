@@ -1,5 +1,5 @@
 -- The text of what is shown, as it is written part by part.
-use Rattle.std.proofs.Common.{◌≡◌, ℕ, ◌+◌, ◌<◌, Bool, true, false, List, [], ◌∷◌, ◌++◌, length, map, flat_map, drop, codes, refl, sym, ap, ◌∙◌, subst, arith, append_assoc, append-nil, length-append, true≢false}
+use Rattle.std.proofs.Common.{◌≡◌, ℕ, ◌<◌, Bool, true, false, List, [], ◌∷◌, ◌++◌, length, map, flat_map, codes, refl, sym, ap, ◌∙◌, subst, arith, append_assoc, append-nil, length-append, true≢false}
 use Rattle.dg_schema.specs.declared.definition.PredDef.{PredDef}
 use Rattle.dg_graph.specs.declared.change.Triple.{Triple}
 use Rattle.dg_parse.specs.declared.query.QBlock.{QBlock}

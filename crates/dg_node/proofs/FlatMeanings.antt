@@ -1,10 +1,9 @@
 -- What a flat query answers by its plan is what it answers by its text.
 use Rattle.std.proofs.Common.{◌≡◌, ℕ, suc, Bool, false, List, [], ◌∷◌, ◌++◌, length, flat_map, refl, sym, ap, ◌∙◌}
-use Rattle.std.specs.Prelude.{pos, ◌&&◌, Option, Some, None, filter, option_to_list}
+use Rattle.std.specs.Prelude.{◌&&◌, Option, Some, None, filter}
 use Rattle.std.specs.List.{list_any, list_all}
 use Rattle.std.specs.Ordering.{nat_cmp}
 use Rattle.dg_values.specs.Ascending.{has, ascending}
-use Rattle.dg_values.specs.declared.value.Value.{Value}
 use Rattle.dg_schema.specs.declared.definition.PredDef.{PredDef}
 use Rattle.dg_graph.specs.declared.change.Triple.{Triple}
 use Rattle.dg_graph.specs.Graphs.{IsLawful}
@@ -23,10 +22,8 @@ use Rattle.dg_check.specs.declared.parts.Parts.{Parts}
 use Rattle.dg_check.specs.Parts.{AreFiltersOf, no_filter, more_filters, filters_in, IsRootOf, IsBlockOf, AreBlocksOf}
 use Rattle.dg_check.specs.Variables.{Definition, names_for}
 use Rattle.dg_funcs.specs.Truth.{passes, nodes_along}
-use Rattle.dg_funcs.specs.Roots.{root_nodes}
 use Rattle.dg_funcs.specs.Meaning.{text_stands_to_any, text_is_between, text_nodes_named, text_named_nodes, text_compared, text_holds_at, text_step_of_part, text_step_of_filter, text_passes, text_nodes_of_part, text_candidates, text_root_nodes}
 use Rattle.dg_funcs.specs.Laws.{AreOfKind, FiltersMeanTheirTexts, RootsMeanTheirTexts}
-use Rattle.dg_tree.specs.declared.tree.Field.{Field}
 use Rattle.dg_node.specs.Flat.{block_shown}
 use Rattle.dg_node.specs.FlatAnswers.{nodes_at_root, nodes_of_block}
 use Rattle.dg_node.specs.FlatPlans.{planned_root, planned_nodes, planned_answer}

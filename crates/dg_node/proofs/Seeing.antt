@@ -1,11 +1,17 @@
 -- What a query is answered as a session sees it, beside sessions of others.
-use Rattle.std.proofs.Common.{◌≡◌, ℕ, Bool, true, false, List, length, Option, Some, None, Ok, Err, refl, ap, subst, sym, ◌∙◌}
-use Rattle.std.specs.Prelude.{◌++◌, ◌==◌, Result, IfOk}
+use Rattle.std.proofs.Common.{◌≡◌, ◌≢◌, inl, inr, ℕ, Bool, true, false, List, length, Option, Some, None, Ok, Err, refl, ap, subst, sym, ◌∙◌}
+use Rattle.std.specs.Prelude.{◌++◌, ◌==◌, Result, IfOk, IsOk}
 use Rattle.std.specs.Str.Lossy.{utf8_valid_len}
 use Rattle.dg_check.specs.declared.patterns.Refusal.{Refusal as BadPattern}
 use Rattle.dg_graph.specs.declared.change.Triple.{Triple}
 use Rattle.dg_schema.specs.declared.definition.PredDef.{PredDef}
+use Rattle.dg_parse.specs.declared.fault.DqlFault.{DqlFault}
+use Rattle.dg_parse.specs.declared.query.Query.{Query}
 use Rattle.dg_parse.specs.Whole.{query_of}
+use Rattle.dg_check.specs.declared.fault.CheckFault.{CheckFault}
+use Rattle.dg_check.specs.declared.fault.CheckFault.TheVariants as faults
+use Rattle.dg_check.specs.Faults.{fault_of}
+use Rattle.dg_check.specs.Outcomes.{IsFaultOf, IsQueryOutcome}
 use Rattle.dg_wire.specs.declared.refusal.Refusal.TheVariants as refusals
 use Rattle.dg_wire.specs.declared.reply.Reply.{Reply}
 use Rattle.dg_wire.specs.declared.reply.Reply.TheVariants as replies
@@ -13,7 +19,8 @@ use Rattle.dg_zero.specs.Legal.{IsLegal}
 use Rattle.dg_zero.specs.States.{Zero}
 use Rattle.dg_txn.specs.Own.{Transaction, graph}
 use Rattle.dg_node.specs.Machine.{Machine, Session, session_of}
-use Rattle.dg_node.specs.Queries.{Queries, QueriesIn, QueriesText, QueriesAs}
+use Rattle.dg_node.specs.Flat.{is_flat}
+use Rattle.dg_node.specs.Queries.{refusal_of_check, answer_or_fault, QueriesBy, QueriesForm, QueriesAs, QueriesText, QueriesIn, Queries}
 use Rattle.dg_node.specs.Sessions.{IsOpen, session_by, own_session, between, Sees}
 use Rattle.dg_node.specs.State.{machine_beside}
 use Rattle.dg_node.proofs.Between.{none_found, both_others}
@@ -58,3 +65,28 @@ module _ (list : List BadPattern) (sid : ℕ) (body : List ℕ) where
       → QueriesText list m sid schema g body (utf8_valid_len body == length body) reply m
   text_not_whole m schema g reply not_whole is =
       subst (λ (v : Bool). QueriesText list m sid schema g body v reply m) (sym not_whole) (ap (λ (p : Reply). (p, m)) (sym is))
+
+-- ---- what is read of a text, and what the checks find
+
+module _ {E : Type 0} (list : List BadPattern) (m : Machine) (sid : ℕ) (schema : List PredDef) (g : List Triple) where
+  -- a query of one level
+  pub flat_said : (r : Result Reply E) (query : Query) (read : Result Query DqlFault) → read ≡ Ok query → is_flat query ≡ true
+      → IfOk r (λ p. QueriesBy list m sid schema g query p m) → IfOk r (λ p. QueriesAs list m sid schema g read p m)
+  flat_said r query read e flat by =
+      subst (λ (said : Result Query DqlFault). IfOk r (λ p. QueriesAs list m sid schema g said p m)) (sym e)
+      (subst (λ (v : Bool). IfOk r (λ p. QueriesForm list m sid schema g query v p m)) (sym flat) by)
+
+  -- in which the checks find nothing
+  pub clean_answered : (r : Result Reply E) (query : Query) → fault_of schema query ≡ None → IfOk r (λ p. ◌≡◌ {A = Reply × Machine} (answer_or_fault m sid schema g query None) (p, m)) → IfOk r (λ p. QueriesBy list m sid schema g query p m)
+  clean_answered (Ok p) query clean answers = record { fault = None; found = clean; outcome = answers }
+  clean_answered (Err x) query clean answers = tt
+
+  -- in which they find this
+  pub fault_answered : (r : Result Reply E) (query : Query) (fault : CheckFault) → (IsOk r → IsQueryOutcome schema query list (Err fault)) → IfOk r (λ p. p ≡ replies.Refused (refusal_of_check fault)) → IfOk r (λ p. QueriesBy list m sid schema g query p m)
+  fault_answered (Ok p) query fault found is = record { fault = Some fault; found = found tt; outcome = ap (λ (q : Reply). (q, m)) (sym is) }
+  fault_answered (Err x) query fault found is = tt
+
+-- a fault that is no want of memory is one of the query
+pub found_fault : {E : Type 0} (r : Result Reply E) (schema : List PredDef) (query : Query) (list : List BadPattern) (fault : CheckFault) → IsFaultOf schema query list fault → (IsOk r → fault ≢ faults.OutOfMemory) → IsOk r → IsQueryOutcome schema query list (Err fault)
+found_fault r schema query list fault (inl memory) some ok = absurd (some ok memory)
+found_fault r schema query list fault (inr found) some ok = found

@@ -67,7 +67,11 @@ fn values_shown(alloc: Global, list: bool, values: Vec<Value>) -> Mem<Option<Tre
 }
 
 /// What is shown of the objects of a predicate, if anything. The error is want of memory.
-pub fn shown(alloc: Global, definition: Option<&PredDef>, objects: Vec<Posting>) -> Mem<Option<Tree>>
+pub fn shown(
+    alloc: Global,
+    definition: Option<&PredDef>,
+    objects: Vec<Posting>,
+) -> Mem<Option<Tree>>
     ensures { IfOk result (λ tree. option_to_list tree ≡ shown (option_copied definition.entry) objects.items) }
 {
     match definition {

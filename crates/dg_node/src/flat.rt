@@ -13,8 +13,6 @@ mod fields;
 mod form;
 mod nodes;
 
-pub use form::is_flat;
-
 use dg_check::{Parts, Plan};
 use dg_funcs::meanings;
 use dg_graph::Snapshot;
@@ -22,6 +20,7 @@ use dg_parse::{QBlock, QField};
 use dg_tree::{AnswerText, TreeFault};
 use dg_values::{OutOfMemory, Steps};
 use fields::{mark_before, push_node};
+pub use form::is_flat;
 use nodes::nodes_of;
 use std::alloc::Global;
 use std::sync::ledger::Ledger;

@@ -106,7 +106,7 @@ fn is_flat_item(item: &QItem) -> bool
             args,
             dirs,
             fields,
-        } => !edge.back && is_empty(args) && is_empty(dirs) && !fields.is_some(),
+        } => !edge.back && is_empty(args) && is_empty(dirs) && fields.is_none(),
     }
 }
 
@@ -114,7 +114,7 @@ fn is_flat_item(item: &QItem) -> bool
 fn is_flat_field(field: &QField) -> bool
     ensures { result ≡ is_flat_field field.now }
 {
-    !field.var.is_some() && is_flat_item(&field.item)
+    field.var.is_none() && is_flat_item(&field.item)
 }
 
 // A function that names no variable stands at the root.
@@ -145,7 +145,7 @@ fn are_flat_fields(fields: &[QField]) -> bool
 fn is_flat_block(block: &QBlock) -> bool
     ensures { result ≡ is_flat_block block.now }
 {
-    !block.var.is_some()
+    block.var.is_none()
         && is_flat_root(&block.func)
         && is_empty(&block.args)
         && are_flat_dirs(block.dirs.as_slice())

@@ -1,5 +1,4 @@
-use Rattle.std.proofs.Common.{◌≡◌, ◌<◌, ◌++◌, false, length, codes, refl, ap, ◌∙◌, subst, rules}
-use Rattle.dg_tree.specs.Texts.{field_text}
+use Rattle.std.proofs.Common.{◌<◌, ◌++◌, length, codes, refl, ap, ◌∙◌, subst, rules}
 use Rattle.dg_node.specs.FlatPlans.{planned_answer}
 use Rattle.dg_node.proofs.FlatLaws.{answered, answer_passes}
 use Rattle.dg_node.proofs.flat.planned_answer.Goals as goal

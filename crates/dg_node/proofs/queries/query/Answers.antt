@@ -1,5 +1,18 @@
-use Rattle.dg_node.proofs.Seeing.{asked_sees}
+use Rattle.std.proofs.Common.{ap, sym, ◌∙◌}
+use Rattle.dg_wire.specs.declared.refusal.Refusal.TheVariants as refusals
+use Rattle.dg_wire.specs.declared.reply.Reply.TheVariants as replies
+use Rattle.dg_txn.specs.Own.{graph}
+use Rattle.dg_node.proofs.MutationLemmas.{is_whole, not_whole}
+use Rattle.dg_node.proofs.Opens.{seen_lawful}
+use Rattle.dg_node.proofs.Seeing.{none_sees, text_sees, text_whole, text_not_whole}
 use Rattle.dg_node.proofs.queries.query.Goals as goal
 
-pub returns-in-Some : goal.returns-in-Some
-returns-in-Some c = λ author zero legal session. asked_sees c.query_at.result c.args.sid c.args.session.now c.args.body.now c.in-Some.uid c.in-Some.name.now zero c.in-Some.ensures.found (c.query_at.ensures author zero legal session)
+pub returns-in_default-clause-answered : goal.returns-in_default-clause-answered
+returns-in_default-clause-answered g c = λ author zero legal session.
+    none_sees _ c.args.sid c.args.body.now c.args.session.now c.no_session.result zero c.in_default.is c.no_session.ensures
+
+pub returns-in-Ok-clause-answered : goal.returns-in-Ok-clause-answered
+returns-in-Ok-clause-answered g c = ?
+
+pub returns-in-Err-clause-answered : goal.returns-in-Err-clause-answered
+returns-in-Err-clause-answered g c = ?

@@ -1,5 +1,5 @@
-use Rattle.std.proofs.Common.{◌≡◌, ◌<◌, ◌++◌, Bool, true, false, length, codes, sym, ap, ◌∙◌, subst, rules}
-use Rattle.dg_node.specs.Listed.{mark_before, listed, has_parts}
+use Rattle.std.proofs.Common.{◌<◌, ◌++◌, false, length, sym, ap, ◌∙◌, subst, rules}
+use Rattle.dg_node.specs.Listed.{listed}
 use Rattle.dg_node.specs.FlatTexts.{fields_parts}
 use Rattle.dg_node.proofs.FlatLaws.{node_added, node_some, node_passes, node_left_out, node_none}
 use Rattle.dg_node.proofs.flat.fields.push_node.Goals as goal

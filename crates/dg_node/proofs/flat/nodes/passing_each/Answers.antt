@@ -1,4 +1,4 @@
-use Rattle.std.proofs.Common.{◌≡◌, ℕ, ◌<◌, true, [], length, take, ap, sym, ◌∙◌, arith}
+use Rattle.std.proofs.Common.{◌<◌, true, [], length, take, ap, sym, ◌∙◌, arith}
 use Rattle.std.specs.Prelude.{filter}
 use Rattle.std.specs.List.{list_all}
 use Rattle.dg_funcs.specs.Truth.{passes}
