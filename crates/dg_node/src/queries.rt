@@ -37,13 +37,7 @@ pub fn query(alloc: Global, session: &Option<Txn>, sid: u32, body: &[u8]) -> Mem
 }
 
 // Answers for a predicate of a node.
-fn query_at(
-    alloc: Global,
-    session: &Option<Txn>,
-    sid: u32,
-    uid: u64,
-    name: &[u8],
-) -> Mem<Reply>
+fn query_at(alloc: Global, session: &Option<Txn>, sid: u32, uid: u64, name: &[u8]) -> Mem<Reply>
     requires name { is_predicate name.now ≡ true }
     ensures { (author : ℕ) (zero : Zero) → IsLegal zero.groups zero.history → IsSession zero author session.now → IfOk result (λ reply. Sees sid session.now (λ m n. queried m sid uid name.now ≡ (reply, n)) zero) }
 {

@@ -7,7 +7,6 @@ use Rattle.dg_node.specs.Machine.{Machine}
 use Rattle.dg_node.specs.Queries.{Queries}
 use Rattle.dg_node.specs.State.{Leads}
 use Rattle.dg_node.proofs.OneAmong.{it_is}
-
 use Rattle.dg_node.proofs.Tabled.{none_at, some_at, session_there, query_leads, unseen_by}
 use Rattle.dg_node.proofs.engine.Engine.query.Goals as goal
 
