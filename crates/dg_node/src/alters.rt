@@ -57,12 +57,7 @@ fn alter_by<C: Cluster>(alloc: Global, cluster: &mut C, author: u32, text: &str)
 }
 
 // Adds or replaces definitions, unless a transaction is open, a tablet is held, or data stands in the way.
-fn alter_with<C: Cluster>(
-    alloc: Global,
-    cluster: &mut C,
-    author: u32,
-    newer: &Schema,
-) -> Mem<Reply>
+fn alter_with<C: Cluster>(alloc: Global, cluster: &mut C, author: u32, newer: &Schema) -> Mem<Reply>
     requires own { C.takes cluster.old author ≡ true }
     requires author { author ≡ 0 }
     requires legal { IsLegal (C.zero cluster.old).groups (C.zero cluster.old).history }

@@ -173,12 +173,7 @@ impl Engine {
             return no_session(sid);
         };
         self.cluster.at_rest();
-        let reply = discard(
-            &mut self.cluster,
-            &mut self.slots[place].txn,
-            AUTHOR,
-            sid,
-        );
+        let reply = discard(&mut self.cluster, &mut self.slots[place].txn, AUTHOR, sid);
         drop_closed(&mut self.slots, place);
         reply
     }

@@ -1,4 +1,4 @@
-use Rattle.std.proofs.Common.{◌≡◌, ◌≢◌, ℕ, [], List, Option, Some, None, refl, ap, sym, subst, ◌∙◌}
+use Rattle.std.proofs.Common.{◌≡◌, ◌≢◌, ℕ, [], List, Option, Some, None, set, refl, ap, sym, subst, ◌∙◌}
 use Rattle.std.specs.Prelude.{IfOk, OnErr, IsSomeAnd}
 use Rattle.dg_wire.specs.declared.reply.Reply.{Reply}
 use Rattle.dg_node.specs.declared.engine.Slot.{Slot}
@@ -7,7 +7,7 @@ use Rattle.dg_node.specs.Kept.{IsKept}
 use Rattle.dg_node.specs.Machine.{Machine}
 use Rattle.dg_node.specs.State.{machine_of, Leads, Stays}
 use Rattle.dg_node.proofs.OneAmong.{it_is}
-use Rattle.dg_node.proofs.Slots.{held_by}
+use Rattle.dg_node.proofs.Slots.{held_by, slot_of}
 use Rattle.dg_wire.specs.declared.refusal.Refusal.TheVariants as refusals
 use Rattle.dg_wire.specs.declared.reply.Reply.TheVariants as replies
 use Rattle.dg_wire.specs.declared.request.Request.TheVariants as requests
@@ -54,7 +54,7 @@ returns-clause-ok c =
     let a = some_at slots c.as_slice.result.now sid c.place_of.result c.in-Some.place c.as_slice.ensures.value c.place_of.ensures.place c.in-Some.is in
     let d = c.index_mut.result.now in
     let it : d ≡ a.it = it_is (λ (s : Slot). s.sid) sid slots c.in-Some.place a d c.index_mut.ensures.value in
-    subst (λ (h : Held). IfOk c.mutate.result (λ (p : Reply). Leads h (λ (m n : Machine). Mutates m sid c.args.body.now p n) _)) c.self.view_is
+    subst (λ (h : Held). IfOk c.mutate.result (λ (p : Reply). Leads h (λ (m n : Machine). Mutates m sid c.args.body.now p n) (held_by c.mutate.new.cluster (set slots c.in-Some.place (slot_of d.sid c.mutate.new.session))))) c.self.view_is
     (stayed_leads_by z slots sid c.in-Some.place c.self.invariant a d it c.mutate.new.cluster c.mutate.new.session (λ (p : Reply) (m n : Machine). Mutates m c.args.sid c.args.body.now p n) (λ (m n : Machine). Spares (requests.Mutate c.args.sid c.args.body.now) m n) c.mutate.ensures.stays c.mutate.result c.mutate.ensures.ok c.at_rest.ensures.rest)
 
 pub returns-clause-err : goal.returns-clause-err
@@ -65,5 +65,5 @@ returns-clause-err c =
     let a = some_at slots c.as_slice.result.now sid c.place_of.result c.in-Some.place c.as_slice.ensures.value c.place_of.ensures.place c.in-Some.is in
     let d = c.index_mut.result.now in
     let it : d ≡ a.it = it_is (λ (s : Slot). s.sid) sid slots c.in-Some.place a d c.index_mut.ensures.value in
-    subst (λ (h : Held). OnErr c.mutate.result (Leads h (λ (m n : Machine). Spares (requests.Mutate c.args.sid c.args.body.now) m n) _)) c.self.view_is
+    subst (λ (h : Held). OnErr c.mutate.result (Leads h (λ (m n : Machine). Spares (requests.Mutate c.args.sid c.args.body.now) m n) (held_by c.mutate.new.cluster (set slots c.in-Some.place (slot_of d.sid c.mutate.new.session))))) c.self.view_is
     (stayed_spares_by z slots sid c.in-Some.place c.self.invariant a d it c.mutate.new.cluster c.mutate.new.session (λ (p : Reply) (m n : Machine). Mutates m c.args.sid c.args.body.now p n) (λ (m n : Machine). Spares (requests.Mutate c.args.sid c.args.body.now) m n) c.mutate.ensures.stays c.mutate.result c.mutate.ensures.err c.at_rest.ensures.rest)
