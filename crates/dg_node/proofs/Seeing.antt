@@ -19,6 +19,7 @@ use Rattle.dg_zero.specs.Legal.{IsLegal}
 use Rattle.dg_zero.specs.States.{Zero}
 use Rattle.dg_txn.specs.Own.{Transaction, graph}
 use Rattle.dg_node.specs.Machine.{Machine, Session, session_of}
+use Rattle.dg_node.specs.Schemas.{schema_at}
 use Rattle.dg_node.specs.Flat.{is_flat}
 use Rattle.dg_node.specs.Queries.{refusal_of_check, answer_or_fault, QueriesBy, QueriesForm, QueriesAs, QueriesText, QueriesIn, Queries}
 use Rattle.dg_node.specs.Sessions.{IsOpen, session_by, own_session, between, Sees}
@@ -49,7 +50,7 @@ module _ (list : List BadPattern) (sid : ℕ) (body : List ℕ) where
       let schema_is = schema_here author txn z legal opens ss in
       let graph_is = graph_here author txn z legal opens ss in
       let seen = subst (λ (ds : List PredDef). QueriesText list m sid ds (graph txn) body whole p m) (sym schema_is) (answers m) in
-      let there = subst (λ (g : List Triple). QueriesText list m sid _ g body whole p m) (sym graph_is) seen in
+      let there = subst (λ (g : List Triple). QueriesText list m sid (schema_at m.alters txn.start) g body whole p m) (sym graph_is) seen in
       let found = subst (λ (s : Option Session). QueriesIn list m sid s body p m) (sym (finds_own sid txn z front back a)) there in
       subst (λ (t : Transaction). Queries list (machine_beside z (between front (own_session sid (Some t)) back)) sid body p (machine_beside z (between front (own_session sid (Some t)) back))) (sym same) found
 
@@ -83,7 +84,7 @@ module _ {E : Type 0} (list : List BadPattern) (m : Machine) (sid : ℕ) (schema
 
   -- in which they find this
   pub fault_answered : (r : Result Reply E) (query : Query) (fault : CheckFault) → (IsOk r → IsQueryOutcome schema query list (Err fault)) → IfOk r (λ p. p ≡ replies.Refused (refusal_of_check fault)) → IfOk r (λ p. QueriesBy list m sid schema g query p m)
-  fault_answered (Ok p) query fault found is = record { fault = Some fault; found = found tt; outcome = ap (λ (q : Reply). (q, m)) (sym is) }
+  fault_answered (Ok p) query fault found is = record { fault = Some fault; found = found refl; outcome = ap (λ (q : Reply). (q, m)) (sym is) }
   fault_answered (Err x) query fault found is = tt
 
 -- a fault that is no want of memory is one of the query
