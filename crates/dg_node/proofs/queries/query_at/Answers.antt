@@ -1,4 +1,4 @@
-use Rattle.std.proofs.Common.{◌≡◌, ℕ, ap, subst, ◌∙◌}
+use Rattle.std.proofs.Common.{◌≡◌, ap, subst, ◌∙◌}
 use Rattle.dg_graph.specs.Graphs.{objects}
 use Rattle.dg_schema.specs.Definitions.{definition_of}
 use Rattle.dg_tree.specs.Texts.{answer_text}
