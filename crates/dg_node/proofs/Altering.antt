@@ -1,5 +1,5 @@
 -- What an alter makes of the history and of the machine, whose sessions have the active starts.
-use Rattle.std.proofs.Common.{◌≡◌, ℕ, ◌+◌, ◌-◌, ◌<◌, ◌≤◌, ◌^◌, Bool, true, false, List, [], ◌∷◌, ◌++◌, Option, Some, None, Ok, Err, refl, ap, subst, sym, ◌∙◌, arith}
+use Rattle.std.proofs.Common.{◌≡◌, ℕ, ◌+◌, ◌-◌, ◌<◌, ◌≤◌, ◌^◌, Bool, true, List, [], ◌∷◌, Some, None, Ok, Err, refl, ap, subst, sym, ◌∙◌, arith}
 use Rattle.std.specs.Prelude.{fold, map, min, Result, IfOk}
 use Rattle.std.specs.List.{AllByRecursion}
 use Rattle.dg_schema.specs.declared.definition.PredDef.{PredDef}
@@ -9,7 +9,7 @@ use Rattle.dg_wire.specs.declared.refusal.Refusal.TheVariants as refusals
 use Rattle.dg_wire.specs.declared.reply.Reply.{Reply}
 use Rattle.dg_wire.specs.declared.reply.Reply.TheVariants as replies
 use Rattle.dg_zero.specs.declared.entry.Event.TheVariants.{Look}
-use Rattle.dg_zero.specs.Counters.{Started, next, active, starts_of, line}
+use Rattle.dg_zero.specs.Counters.{next, active, starts_of, line}
 use Rattle.dg_zero.specs.Legal.{IsLegal}
 use Rattle.dg_zero.specs.Places.{tablets}
 use Rattle.dg_zero.specs.States.{Zero, and_then, alter_of, first_held, IsLeastStart}
@@ -18,13 +18,11 @@ use Rattle.dg_zero.proofs.LawsOfHistories.{line_stays_below, present_is_last}
 use Rattle.dg_node.specs.declared.cluster.ClusterFault.{ClusterFault}
 use Rattle.dg_node.specs.declared.cluster.ClusterFault.TheVariants as faults
 use Rattle.dg_node.specs.Clusters.{Meets, AltersAt}
-use Rattle.dg_node.specs.Alters.{least_start, first_with_data, present_schema, present_graph, altered, declared}
-use Rattle.dg_node.specs.Graphs.{committed_at}
+use Rattle.dg_node.specs.Alters.{least_start, first_with_data, present_schema, present_graph, altered}
 use Rattle.dg_node.specs.Machine.{Machine, Session}
 use Rattle.dg_node.specs.Owning.{AreAtRest}
-use Rattle.dg_node.specs.Schemas as machines
 use Rattle.dg_node.specs.Sessions.{Alters}
-use Rattle.dg_node.specs.State.{alters, asked_by, machine_beside}
+use Rattle.dg_node.specs.State.{machine_beside}
 use Rattle.dg_node.proofs.Alone.{meets_here}
 use Rattle.dg_node.proofs.AlterLemmas.{first_is, held_nowhere}
 use Rattle.dg_node.proofs.MachineLemmas.{schemas_are}

@@ -1,28 +1,27 @@
 -- What a begin makes of its session, the history and the machine.
-use Rattle.std.proofs.Common.{◌≡◌, ℕ, ◌+◌, ◌<◌, ◌^◌, Bool, true, false, cond, List, [], Option, Some, None, is_some, Ok, Err, Vec, Global, refl, ap, subst, sym, ◌∙◌}
+use Rattle.std.proofs.Common.{◌≡◌, ℕ, ◌<◌, Bool, true, false, cond, List, [], Option, Some, None, is_some, Ok, Err, Vec, Global, refl, ap, subst, sym, ◌∙◌}
 use Rattle.std.specs.Prelude.{◌++◌}
 use Rattle.std.specs.Arc.{arc_value}
 use Rattle.dg_schema.specs.declared.definition.PredDef.{PredDef}
 use Rattle.dg_keys.specs.declared.record.Tablet.{Tablet}
-use Rattle.dg_graph.specs.declared.change.Triple.{Triple}
 use Rattle.dg_oracle.specs.Commits.{is_active}
 use Rattle.dg_wire.specs.declared.refusal.Refusal.TheVariants as refusals
 use Rattle.dg_wire.specs.declared.reply.Reply.{Reply}
 use Rattle.dg_wire.specs.declared.reply.Reply.TheVariants as replies
-use Rattle.dg_zero.specs.declared.entry.Event.TheVariants.{Begin, End, Look}
+use Rattle.dg_zero.specs.declared.entry.Event.TheVariants.{End, Look}
 use Rattle.dg_zero.specs.declared.zero.Begun.{Begun}
 use Rattle.dg_zero.specs.Counters.{next, active, starts_of, is_active_of}
 use Rattle.dg_zero.specs.Legal.{IsLegal}
-use Rattle.dg_zero.specs.States.{Zero, and_then, owners}
+use Rattle.dg_zero.specs.States.{Zero, and_then}
 use Rattle.dg_zero.specs.Worlds.{schema, graph_at}
 use Rattle.dg_zero.proofs.Committing.{active_from}
 use Rattle.dg_group.specs.Groups.{Group}
 use Rattle.dg_txn.specs.Own.{Transaction}
 use Rattle.dg_txn.specs.Pins.{ArePinsOf}
 use Rattle.dg_node.specs.declared.cluster.ClusterFault.TheVariants as faults
-use Rattle.dg_node.specs.Clusters.{AreOthers, Meets, BeginsAt, EndsAt}
+use Rattle.dg_node.specs.Clusters.{Meets, BeginsAt, EndsAt}
 use Rattle.dg_node.specs.Machine.{Machine}
-use Rattle.dg_node.specs.Sessions.{IsOpen, IsSession, Serves, Draws, Drops, SparesBegin}
+use Rattle.dg_node.specs.Sessions.{IsOpen, Serves, Draws, Drops, SparesBegin}
 use Rattle.dg_node.specs.State.{machine_beside}
 use Rattle.dg_node.specs.Transactions.{begun}
 use Rattle.dg_node.proofs.Alone.{meets_here}

@@ -1,5 +1,5 @@
 -- One session, or one start, between those of others: what is found, dropped and changed by its number.
-use Rattle.std.proofs.Common.{◌≡◌, ◌≢◌, ℕ, ◌+◌, ◌<◌, Bool, true, false, cond, not, List, [], ◌∷◌, ◌++◌, Option, Some, None, is_some, refl, ap, subst, sym, ◌∙◌, arith}
+use Rattle.std.proofs.Common.{◌≡◌, ◌≢◌, ℕ, Bool, true, false, not, List, [], ◌∷◌, ◌++◌, Some, None, refl, ap, subst, sym, ◌∙◌, arith}
 use Rattle.std.specs.Prelude.{◌==◌, map, filter, find}
 use Rattle.std.specs.List.{AllByRecursion}
 use Rattle.std.proofs.lemmas.Grind.{common_steps}
@@ -9,10 +9,9 @@ use Rattle.dg_zero.specs.declared.entry.Entry.{Entry}
 use Rattle.dg_zero.specs.Counters.{Started, active, ended, starts_of, line}
 use Rattle.dg_zero.specs.Legal.{IsLegal}
 use Rattle.dg_zero.proofs.LawsOfHistories.{line_stays_below}
-use Rattle.dg_txn.specs.Own.{Transaction}
 use Rattle.dg_node.specs.Kept.{AreApart}
 use Rattle.dg_node.specs.Machine.{Session, changed_if}
-use Rattle.dg_node.specs.Sessions.{HaveOthers, own_session}
+use Rattle.dg_node.specs.Sessions.{HaveOthers}
 use Rattle.dg_node.proofs.OneAmong.{all_around, apart_ascending}
 
 same_number : (a b : ℕ) → a ≡ b → (a == b) ≡ true

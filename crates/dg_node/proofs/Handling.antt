@@ -1,6 +1,5 @@
 -- What a handler's calls make of its session.
-use Rattle.std.proofs.Common.{◌≡◌, ℕ, Bool, true, false, cond, List, [], Option, Some, None, is_some, refl, ap, subst, sym, ◌∙◌}
-use Rattle.dg_wire.specs.declared.refusal.Refusal.TheVariants as refusals
+use Rattle.std.proofs.Common.{◌≡◌, ℕ, Bool, true, cond, List, [], Option, Some, None, refl, subst, sym, ◌∙◌}
 use Rattle.dg_wire.specs.declared.reply.Reply.{Reply}
 use Rattle.dg_wire.specs.declared.reply.Reply.TheVariants as replies
 use Rattle.dg_zero.specs.declared.entry.Event.TheVariants.{End, Look}
@@ -9,7 +8,7 @@ use Rattle.dg_zero.specs.Legal.{IsLegal}
 use Rattle.dg_zero.specs.States.{Zero, and_then}
 use Rattle.dg_zero.proofs.Committing.{active_from}
 use Rattle.dg_txn.specs.Own.{Transaction}
-use Rattle.dg_node.specs.Clusters.{AreOthers, Meets, EndsAt}
+use Rattle.dg_node.specs.Clusters.{Meets, EndsAt}
 use Rattle.dg_node.specs.Machine.{Machine, Session, without_session}
 use Rattle.dg_node.specs.Sessions.{IsOpen, IsSession, HaveOthers, Serves, session_by}
 use Rattle.dg_node.specs.State.{machine_beside}

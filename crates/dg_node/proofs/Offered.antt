@@ -1,5 +1,5 @@
 -- What a commit makes of its session, the history and the machine, by what the cluster answers.
-use Rattle.std.proofs.Common.{◌≡◌, ◌≢◌, ℕ, Bool, true, false, cond, List, [], Option, Some, None, Ok, Err, refl, ap, subst, sym, ◌∙◌}
+use Rattle.std.proofs.Common.{◌≡◌, ◌≢◌, ℕ, Bool, true, cond, [], Option, Some, None, Ok, Err, refl, subst, sym, ◌∙◌}
 use Rattle.std.specs.Prelude.{Result, IfOk, OnErr}
 use Rattle.dg_wire.specs.declared.refusal.Refusal.TheVariants as refusals
 use Rattle.dg_wire.specs.declared.reply.Reply.{Reply}

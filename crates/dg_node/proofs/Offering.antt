@@ -1,5 +1,5 @@
 -- What each answer of a cluster to a session's offer makes of the history and of the machine.
-use Rattle.std.proofs.Common.{◌≡◌, ◌≢◌, ℕ, ◌+◌, ◌<◌, ◌^◌, Bool, true, List, [], ◌∷◌, ◌++◌, Option, Some, None, refl, ap, subst, sym, ◌∙◌, arith}
+use Rattle.std.proofs.Common.{◌≡◌, ◌≢◌, ℕ, ◌<◌, ◌^◌, true, List, [], ◌∷◌, ◌++◌, Option, Some, None, refl, ap, subst, sym, ◌∙◌}
 use Rattle.std.specs.Prelude.{◌==◌, filter, not, slice_get, option_map}
 use Rattle.dg_schema.specs.declared.definition.PredDef.{PredDef}
 use Rattle.dg_graph.specs.declared.change.Triple.{Triple}
@@ -14,12 +14,10 @@ use Rattle.dg_wire.specs.declared.refusal.Refusal.TheVariants as refusals
 use Rattle.dg_wire.specs.declared.reply.Reply.{Reply}
 use Rattle.dg_wire.specs.declared.reply.Reply.TheVariants as replies
 use Rattle.dg_zero.specs.declared.entry.Entry.{Entry}
-use Rattle.dg_zero.specs.declared.entry.Reason.{Reason}
 use Rattle.dg_zero.specs.declared.entry.Reason.TheVariants as reasons
-use Rattle.dg_zero.specs.declared.entry.Event.{Event}
 use Rattle.dg_zero.specs.declared.entry.Event.TheVariants.{Refused}
 use Rattle.dg_zero.specs.declared.offer.Offer.{Offer}
-use Rattle.dg_zero.specs.Counters.{Started, next, active, ended, is_active_of}
+use Rattle.dg_zero.specs.Counters.{next, active, ended, is_active_of}
 use Rattle.dg_zero.specs.Legal.{IsLegal}
 use Rattle.dg_zero.specs.Listings.{conflict_keys}
 use Rattle.dg_zero.specs.Offers.{IsSound, IsMadeOf}
@@ -29,19 +27,19 @@ use Rattle.dg_zero.specs.Verdicts as zeros
 use Rattle.dg_zero.specs.Worlds.{world, schema, schema_at, graph_at}
 use Rattle.dg_zero.proofs.Refusals.{verdict_where_idle}
 use Rattle.dg_txn.specs.Own.{Transaction}
-use Rattle.dg_node.specs.Machine.{Machine, Session, session_of, without_session, drawn}
+use Rattle.dg_node.specs.Machine.{Machine, Session}
 use Rattle.dg_node.specs.Graphs.{committed_at}
 use Rattle.dg_node.specs.Schemas as machines
-use Rattle.dg_node.specs.Transactions.{keys_at, refusal_by, clash_of, committed, with_commit}
+use Rattle.dg_node.specs.Transactions.{keys_at, refusal_by, clash_of, committed}
 use Rattle.dg_node.specs.Committing.{IsOfferOf}
 use Rattle.dg_node.specs.Owning.{AreAtRest}
-use Rattle.dg_node.specs.Sessions.{IsOpen, session_by, own_session, between, HaveOthers, Serves, Sees}
+use Rattle.dg_node.specs.Sessions.{IsOpen, session_by, Serves, Sees}
 use Rattle.dg_node.specs.State.{alters, asked_by, machine_beside}
 use Rattle.dg_node.proofs.Between.{left_between}
 use Rattle.dg_node.proofs.CommitLemmas.{refusal_none, no_moving, refused_quiet}
 use Rattle.dg_node.proofs.MachineLemmas.{schemas_are}
-use Rattle.dg_node.proofs.ReplyLemmas.{committed_is, commit_clashes, commit_spent, nothing_committed}
-use Rattle.dg_node.proofs.Serving.{Finds, finds_own, stands_beside, adds_one, own_ended, ended_serves}
+use Rattle.dg_node.proofs.ReplyLemmas.{committed_is, commit_clashes, commit_spent}
+use Rattle.dg_node.proofs.Serving.{finds_own, stands_beside, adds_one, own_ended, ended_serves}
 use Rattle.dg_node.proofs.Standing.{is_beside}
 use Rattle.dg_node.proofs.StandLemmas.{IsCommittedAs, stand_commit}
 

@@ -1,31 +1,23 @@
 -- What a request of one session makes of the history and of the machine, beside sessions of others.
-use Rattle.std.proofs.Common.{◌≡◌, ℕ, ◌+◌, ◌<◌, ◌^◌, Bool, true, false, cond, List, [], ◌∷◌, ◌++◌, Option, Some, None, inl, inr, refl, ap, subst, sym, ◌∙◌, arith, append_assoc}
-use Rattle.std.specs.Prelude.{◌==◌, find, filter, map, not}
-use Rattle.std.specs.List.{AllByRecursion}
+use Rattle.std.proofs.Common.{◌≡◌, ℕ, ◌+◌, ◌<◌, ◌^◌, Bool, true, false, cond, List, [], ◌∷◌, ◌++◌, Option, Some, None, inl, inr, refl, ap, subst, sym, ◌∙◌, arith}
+use Rattle.std.specs.Prelude.{◌==◌, filter, not}
 use Rattle.std.proofs.lemmas.List.{append-nil}
 use Rattle.dg_wire.specs.declared.reply.Reply.{Reply}
 use Rattle.dg_wire.specs.declared.reply.Reply.TheVariants as replies
-use Rattle.dg_wire.specs.declared.request.Request.TheVariants as requests
-use Rattle.dg_zero.specs.declared.entry.Entry.{Entry}
 use Rattle.dg_zero.specs.declared.entry.Event.{Event}
-use Rattle.dg_zero.specs.declared.entry.Event.TheVariants.{Begin, End, Lease, Look}
+use Rattle.dg_zero.specs.declared.entry.Event.TheVariants.{Begin, End, Look}
 use Rattle.dg_zero.specs.Counters.{Started, next, next_uid, next_uid_after, drawn, active, active_after, ended}
 use Rattle.dg_zero.specs.Legal.{IsLegal}
 use Rattle.dg_zero.specs.States.{Zero, and_then}
-use Rattle.dg_zero.proofs.Histories.{next_push, active_push}
+use Rattle.dg_zero.proofs.Histories.{active_push}
 use Rattle.dg_txn.specs.Own.{Transaction}
 use Rattle.dg_node.specs.Clusters.{AreOthers, Meets}
 use Rattle.dg_node.specs.Machine.{Machine, Session, session_of, without_session}
-use Rattle.dg_node.specs.Machine as machines
 use Rattle.dg_node.specs.Owning.{AreAtRest}
-use Rattle.dg_node.specs.Schemas.{Alter}
-use Rattle.dg_node.specs.Graphs.{Commit}
-use Rattle.dg_node.specs.Sessions.{own_session, own_start, between, placed, HaveOthers, Adds, Serves, Draws, Drops, drawn_by, ended_if, Sees}
+use Rattle.dg_node.specs.Sessions.{own_session, own_start, between, placed, HaveOthers, Adds, Serves, Draws, Drops, Sees}
 use Rattle.dg_node.specs.State.{alters, asked_by, machine_beside}
-use Rattle.dg_node.specs.Steps.{Spares}
 use Rattle.dg_node.specs.Transactions.{begun}
 use Rattle.dg_node.proofs.Agreeing.{agree}
-use Rattle.dg_node.proofs.Alone.{meets_here}
 use Rattle.dg_node.proofs.Between.{found_between, none_found, left_between, both_others, ended_between}
 use Rattle.dg_node.proofs.CommitLemmas.{begin_quiet, end_quiet, look_quiet}
 use Rattle.dg_node.proofs.Opens.{opened_by}

@@ -1,7 +1,7 @@
 -- The table of sessions: what a request of one of them leaves of all.
-use Rattle.std.proofs.Common.{◌≡◌, ◌≢◌, ℕ, ◌+◌, Bool, true, false, cond, List, [], ◌∷◌, ◌++◌, Option, Some, None, is_some, length, set, refl, ap, subst, sym, ◌∙◌, arith, append_assoc}
+use Rattle.std.proofs.Common.{◌≡◌, ◌≢◌, ℕ, Bool, true, false, List, [], ◌∷◌, ◌++◌, Option, Some, None, is_some, length, refl, ap, subst, sym, ◌∙◌, arith}
 use Rattle.std.specs.Prelude.{◌==◌, ◌&&◌, ◌||◌, map, flat_map, slice_get, IsSome}
-use Rattle.std.specs.List.{AllByRecursion, remove}
+use Rattle.std.specs.List.{AllByRecursion}
 use Rattle.std.proofs.lemmas.Grind.{common_steps, flat_map-append}
 use Rattle.std.proofs.lemmas.List.{append-nil, map-append}
 use Rattle.dg_zero.specs.declared.entry.Entry.{Entry}
@@ -14,12 +14,12 @@ use Rattle.dg_node.specs.Held.{Held}
 use Rattle.dg_node.specs.Kept.{opened_in, opened_of, unless_open, with_opened, AreApart, IsKept}
 use Rattle.dg_node.specs.Machine.{Machine, Session, session_of}
 use Rattle.dg_node.specs.Owning.{AreAtRest}
-use Rattle.dg_node.specs.Sessions.{IsOpen, IsSession, session_by, own_session, own_start, between, placed, HaveOthers, Adds, Serves, Sees}
+use Rattle.dg_node.specs.Sessions.{IsOpen, IsSession, session_by, own_session, own_start, between, HaveOthers, Adds, Serves, Sees}
 use Rattle.dg_node.specs.State.{session_from, machine_of, machine_beside, Leads}
 use Rattle.dg_node.proofs.Between.{found_between, none_found}
 use Rattle.dg_node.proofs.Opens.{open_longer}
 use Rattle.dg_node.proofs.MachineLemmas.{all_from}
-use Rattle.dg_node.proofs.OneAmong.{Around, removed_at, get_at, set_is, all_around, all_joined, apart_without, apart_with, apart_push}
+use Rattle.dg_node.proofs.OneAmong.{Around, removed_at, get_at, all_around, all_joined, apart_without, apart_with, apart_push}
 
 -- a slot
 abbrev pub slot_of : ℕ → Option Transaction → Slot

@@ -1,5 +1,5 @@
 -- Each call of the engine, by what the handler of its session says.
-use Rattle.std.proofs.Common.{◌≡◌, ◌≢◌, ℕ, Bool, true, false, List, [], ◌++◌, ◌∷◌, Option, Some, None, is_some, Ok, Err, length, set, refl, ap, subst, sym, ◌∙◌}
+use Rattle.std.proofs.Common.{◌≡◌, ◌≢◌, ℕ, true, false, List, [], ◌++◌, ◌∷◌, Option, Some, None, is_some, Ok, Err, length, set, refl, ap, subst, sym, ◌∙◌}
 use Rattle.std.specs.Prelude.{◌==◌, position, slice_get, Result, IfOk, OnErr, IsSomeAnd}
 use Rattle.std.specs.List.{AllByRecursion}
 use Rattle.dg_wire.specs.declared.refusal.Refusal.TheVariants as refusals
@@ -14,11 +14,11 @@ use Rattle.dg_node.specs.Kept.{unless_open, with_opened, IsKept}
 use Rattle.dg_node.specs.Machine.{Machine, session_of}
 use Rattle.dg_node.specs.Owning.{AreAtRest}
 use Rattle.dg_node.specs.Clusters.{Meets}
-use Rattle.dg_node.specs.Sessions.{IsOpen, IsSession, Serves, Sees, Alters}
+use Rattle.dg_node.specs.Sessions.{IsSession, Serves, Sees, Alters}
 use Rattle.dg_node.specs.State.{machine_of, Leads, Stays}
 use Rattle.dg_node.specs.Transactions.{begun, HasChanges}
 use Rattle.dg_node.proofs.Alone.{met_alone}
-use Rattle.dg_node.proofs.OneAmong.{Around, around, none_has, it_is, set_is}
+use Rattle.dg_node.proofs.OneAmong.{Around, around, none_has, set_is}
 use Rattle.dg_node.proofs.ReplyLemmas.{begun_already}
 use Rattle.dg_node.proofs.Sparing.{altered_kept, altered_leads}
 use Rattle.dg_node.proofs.Slots.{slot_of, held_by, left_of, open_then, found_then, none_then, seen_leads, unseen_leads, opened_kept, opened_leads, served_kept, served_leads, slot_at, left_is, changed_is}

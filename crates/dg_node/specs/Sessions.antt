@@ -1,5 +1,5 @@
 -- What a request of one session does to a cluster and to the machine, whatever others do and whichever sessions they have.
-use Rattle.std.specs.Prelude.{◌≡◌, ◌≢◌, ℕ, ◌<◌, Bool, true, List, [], ◌∷◌, ◌++◌, ⊤, Option, Some, None, IsSomeAnd, IfSome, map}
+use Rattle.std.specs.Prelude.{◌≡◌, ◌≢◌, ℕ, ◌<◌, Bool, true, List, [], ◌∷◌, ◌++◌, ⊤, Option, Some, None, IfSome, map}
 use Rattle.std.specs.List.{AllByRecursion}
 use Rattle.dg_graph.specs.declared.change.Change.{Change}
 use Rattle.dg_edges.specs.Deltas.{AreFitting}

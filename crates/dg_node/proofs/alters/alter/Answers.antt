@@ -1,4 +1,4 @@
-use Rattle.std.proofs.Common.{◌≡◌, ℕ, refl, sym, ◌∙◌}
+use Rattle.std.proofs.Common.{◌≡◌, sym, ◌∙◌}
 use Rattle.std.specs.Str.Lossy.{utf8_valid_len}
 use Rattle.dg_schema.specs.Whole as language
 use Rattle.dg_wire.specs.declared.refusal.Refusal.TheVariants as refusals

@@ -1,9 +1,8 @@
-use Rattle.std.proofs.Common.{◌≡◌, ℕ, Bool, true, List, [], Option, Some, None, Result, Ok, Err, refl, ap, subst, sym, ◌∙◌}
+use Rattle.std.proofs.Common.{◌≡◌, ℕ, Bool, true, [], Option, Ok, Err, subst, sym, ◌∙◌}
 use Rattle.std.specs.Arc.{arc_value}
 use Rattle.dg_wire.specs.declared.reply.Reply.{Reply}
 use Rattle.dg_wire.specs.declared.reply.Reply.TheVariants as replies
 use Rattle.dg_zero.specs.Counters.{next, active, is_active_of}
-use Rattle.dg_zero.specs.States.{Zero}
 use Rattle.dg_zero.specs.Worlds.{graph_at}
 use Rattle.dg_node.specs.declared.cluster.ClusterFault.TheVariants as faults
 use Rattle.dg_txn.specs.Own.{Transaction}

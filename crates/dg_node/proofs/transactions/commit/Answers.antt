@@ -1,12 +1,11 @@
-use Rattle.std.proofs.Common.{◌≡◌, ◌≢◌, ℕ, Bool, true, false, cond, List, [], Option, Some, None, Ok, Err, refl, ap, subst, sym, ◌∙◌, true≢false}
+use Rattle.std.proofs.Common.{◌≡◌, ◌≢◌, ℕ, cond, [], Option, Some, None, Ok, Err, ap, subst, sym, ◌∙◌, true≢false}
 use Rattle.dg_wire.specs.declared.reply.Reply.{Reply}
 use Rattle.dg_wire.specs.declared.reply.Reply.TheVariants as replies
-use Rattle.dg_zero.specs.States.{Zero}
 use Rattle.dg_txn.specs.Own.{Transaction}
 use Rattle.dg_node.specs.Clusters.{Meets, CommitsAt}
 use Rattle.dg_node.specs.Committing.{is_ended}
 use Rattle.dg_node.specs.Machine.{Machine}
-use Rattle.dg_node.specs.Sessions.{IsOpen, IsSession, Serves}
+use Rattle.dg_node.specs.Sessions.{IsOpen, IsSession}
 use Rattle.dg_node.specs.State.{machine_beside}
 use Rattle.dg_node.specs.Transactions.{committed}
 use Rattle.dg_node.proofs.Between.{none_found}

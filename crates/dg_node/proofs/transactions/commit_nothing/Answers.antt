@@ -1,4 +1,4 @@
-use Rattle.std.proofs.Common.{◌≡◌, List, [], Option, Some, subst, sym, ◌∙◌}
+use Rattle.std.proofs.Common.{◌≡◌, [], Option, subst, sym, ◌∙◌}
 use Rattle.std.specs.Prelude.{IsSomeAnd}
 use Rattle.dg_wire.specs.declared.reply.Reply.{Reply}
 use Rattle.dg_wire.specs.declared.reply.Reply.TheVariants as replies

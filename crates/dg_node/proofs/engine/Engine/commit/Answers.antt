@@ -1,5 +1,5 @@
-use Rattle.std.proofs.Common.{◌≡◌, ◌≢◌, ℕ, [], List, Option, Some, None, refl, ap, sym, subst, ◌∙◌}
-use Rattle.std.specs.Prelude.{IfOk, OnErr, IsSomeAnd}
+use Rattle.std.proofs.Common.{◌≡◌, List, ap, sym, subst, ◌∙◌}
+use Rattle.std.specs.Prelude.{IfOk, OnErr}
 use Rattle.dg_wire.specs.declared.reply.Reply.{Reply}
 use Rattle.dg_node.specs.declared.engine.Slot.{Slot}
 use Rattle.dg_node.specs.Held.{Held}

@@ -1,12 +1,11 @@
-use Rattle.std.proofs.Common.{◌≡◌, ◌≢◌, ℕ, [], List, Option, Some, None, refl, ap, sym, subst, ◌∙◌}
-use Rattle.std.specs.Prelude.{IfOk, OnErr, IsSomeAnd}
+use Rattle.std.proofs.Common.{◌≡◌, List, ap, sym, subst, ◌∙◌}
 use Rattle.dg_wire.specs.declared.reply.Reply.{Reply}
 use Rattle.dg_node.specs.declared.engine.Slot.{Slot}
 use Rattle.dg_node.specs.Held.{Held}
 use Rattle.dg_node.specs.Kept.{IsKept}
 use Rattle.dg_node.specs.Machine.{Machine}
 use Rattle.dg_node.specs.Sessions.{IsSession}
-use Rattle.dg_node.specs.State.{machine_of, Leads, Stays}
+use Rattle.dg_node.specs.State.{Leads}
 use Rattle.dg_node.proofs.OneAmong.{it_is}
 use Rattle.dg_node.proofs.Slots.{held_by}
 use Rattle.dg_node.specs.Transactions.{discarded}

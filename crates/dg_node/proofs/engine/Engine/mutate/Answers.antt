@@ -1,15 +1,12 @@
-use Rattle.std.proofs.Common.{◌≡◌, ◌≢◌, ℕ, [], List, Option, Some, None, set, refl, ap, sym, subst, ◌∙◌}
-use Rattle.std.specs.Prelude.{IfOk, OnErr, IsSomeAnd}
+use Rattle.std.proofs.Common.{◌≡◌, set, ap, sym, subst}
+use Rattle.std.specs.Prelude.{IfOk, OnErr}
 use Rattle.dg_wire.specs.declared.reply.Reply.{Reply}
 use Rattle.dg_node.specs.declared.engine.Slot.{Slot}
 use Rattle.dg_node.specs.Held.{Held}
-use Rattle.dg_node.specs.Kept.{IsKept}
 use Rattle.dg_node.specs.Machine.{Machine}
-use Rattle.dg_node.specs.State.{machine_of, Leads, Stays}
+use Rattle.dg_node.specs.State.{Leads}
 use Rattle.dg_node.proofs.OneAmong.{it_is}
 use Rattle.dg_node.proofs.Slots.{held_by, slot_of}
-use Rattle.dg_wire.specs.declared.refusal.Refusal.TheVariants as refusals
-use Rattle.dg_wire.specs.declared.reply.Reply.TheVariants as replies
 use Rattle.dg_wire.specs.declared.request.Request.TheVariants as requests
 use Rattle.dg_node.specs.Mutations.{Mutates, MutatesIn}
 use Rattle.dg_node.specs.Steps.{Spares}

@@ -1,4 +1,4 @@
-use Rattle.std.proofs.Common.{◌≡◌, refl, sym, subst}
+use Rattle.std.proofs.Common.{◌≡◌, subst}
 use Rattle.std.specs.Prelude.{IfOk}
 use Rattle.dg_wire.specs.declared.reply.Reply.{Reply}
 use Rattle.dg_node.specs.declared.engine.Slot.{Slot}
