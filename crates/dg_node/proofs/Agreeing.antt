@@ -14,10 +14,10 @@ use Rattle.dg_zero.specs.States.{Zero}
 use Rattle.dg_zero.specs.States as states
 use Rattle.dg_zero.proofs.LawsOfHistories.{kept_from, anyone}
 use Rattle.dg_edges.proofs.CommitsSince.{reached, commits_do_as_asked}
-use Rattle.dg_node.specs.Kept.{Held}
+use Rattle.dg_node.specs.Held.{Held}
 use Rattle.dg_node.specs.Machine.{Machine}
 use Rattle.dg_node.specs.State.{machine_of}
-use Rattle.dg_node.proofs.Standing.{StandFor, is_machine}
+use Rattle.dg_node.proofs.Standing.{StandBeside, is_beside}
 use Rattle.dg_node.proofs.StandLemmas.{IsQuiet, stand_quiet, stand_alter, stand_commit}
 
 -- a state of a history, where no transaction is open
@@ -29,10 +29,10 @@ held_of n h = record { zero = record { groups = n; history = h }; opened = [] }
 
 -- its machine stands for it
 abbrev pub Agree : ℕ → List Entry → Type 0
-Agree n h = StandFor (record { groups = n; history = h }) [] (machine_of (record { zero = record { groups = n; history = h }; opened = [] }))
+Agree n h = StandBeside (record { groups = n; history = h }) [] (machine_of (record { zero = record { groups = n; history = h }; opened = [] }))
 
-of_some : (n : ℕ) (h : List Entry) (m : Machine) → StandFor (record { groups = n; history = h }) [] m → Agree n h
-of_some n h m s = subst (StandFor (record { groups = n; history = h }) []) (is_machine (held_of n h) m s) s
+of_some : (n : ℕ) (h : List Entry) (m : Machine) → StandBeside (record { groups = n; history = h }) [] m → Agree n h
+of_some n h m s = subst (StandBeside (record { groups = n; history = h }) []) (is_beside (zero_of n h) [] m s) s
 
 module _ (n : ℕ) (h : List Entry) (author : ℕ) (s : Agree n h) where
   longer : Event → List Entry

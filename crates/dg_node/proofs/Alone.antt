@@ -18,10 +18,17 @@ none_refused [] a = refl
 none_refused (e ∷ es) a = absurd (let no : true ≡ false = a.0 in cc)
 
 -- where each author is taken, nothing of others comes between
-pub met_alone : (z w : Zero) (step : Zero → Zero → Type 0) → Meets (λ n. true) z w step → step z w
-met_alone z w step m =
-    let none = none_refused m.others.entries m.others.others in
-    let groups = m.others.groups_are in
-    let history : m.met.history ≡ z.history = m.others.history_is ∙ (ap (λ (es : List Entry). z.history ++ es) none ∙ append-nil z.history) in
-    let same : m.met ≡ z = λ i. record { groups = groups i; history = history i } in
-    subst (λ (y : Zero). step y w) same m.goes
+module _ (z w : Zero) (step : Zero → Zero → Type 0) (m : Meets (λ n. true) z w step) where
+  met_is : m.met ≡ z
+  met_is =
+      let none = none_refused m.others.entries m.others.others in
+      let groups = m.others.groups_are in
+      let history : m.met.history ≡ z.history = m.others.history_is ∙ (ap (λ (es : List Entry). z.history ++ es) none ∙ append-nil z.history) in
+      λ i. record { groups = groups i; history = history i }
+
+  pub met_alone : step z w
+  met_alone = subst (λ (y : Zero). step y w) met_is m.goes
+
+  -- the history was legal
+  pub legal_alone : IsLegal z.groups z.history
+  legal_alone = subst (λ (y : Zero). IsLegal y.groups y.history) met_is m.others.legal

@@ -1,5 +1,5 @@
 -- Refusals of the state that coordinates all, as refusals of a cluster.
-use Rattle.std.proofs.Common.{◌≡◌, ℕ, List, [], None, refl, subst, sym, ap, ◌∙◌}
+use Rattle.std.proofs.Common.{◌≡◌, ℕ, List, None, refl, subst, sym}
 use Rattle.dg_schema.specs.declared.definition.PredDef.{PredDef}
 use Rattle.dg_zero.specs.declared.entry.Entry.{Entry}
 use Rattle.dg_zero.specs.declared.fault.ZeroFault.{ZeroFault}
@@ -7,7 +7,6 @@ use Rattle.dg_zero.specs.declared.fault.ZeroFault.TheVariants as zeros
 use Rattle.dg_zero.specs.Counters.{next, next_uid, leased}
 use Rattle.dg_zero.specs.Worlds.{world, schema}
 use Rattle.dg_zero.specs.States as states
-use Rattle.dg_node.specs.declared.cluster.ClusterFault.{ClusterFault}
 use Rattle.dg_node.specs.Alters.{first_with_data}
 use Rattle.dg_node.specs.Clusters.{IsBeginFault, IsLeaseFault, IsAlterFault, cluster_fault}
 

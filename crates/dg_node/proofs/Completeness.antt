@@ -83,21 +83,21 @@ done_all rest more [] e r m = refl
 done_all rest more (q ∷ qs) e r m = absurd (omega (arith, frame_some q, ap length e, ap length r, ap length m, length-append rest more, length-append (frame q) (frames qs)))
 
 pub complete : IsComplete
-complete groups requests left held new statuses.Done ok short a read write words =
+complete list groups requests left held new statuses.Done ok short a read write words =
     let parts = split left a.requests requests a.rest a.valid ok a.took in
     let none = done_all a.rest parts.more parts.begins.rest parts.begins.left a.ends.1 (at_end left parts.more parts.known a.ends.0) in
     let same : a.requests ≡ requests = sym (parts.begins.parts ∙ ap (λ (l : List Request). a.requests ++ l) none ∙ append-nil a.requests) in
-    inl (refl, record { text = a.text; script = subst (λ (l : List Request). Script groups l a.text) same a.script; wrote = subst (Appends held new) a.part a.wrote })
-complete groups requests left held new statuses.ReadFault ok short a read write words = absurd (read refl)
-complete groups requests left held new statuses.WriteFault ok short a read write words = absurd (write refl)
-complete groups requests left held new statuses.BadWords ok short a read write words = absurd (words refl)
-complete groups requests left held new (statuses.BadFrame offset) ok short a read write words =
+    inl (refl, record { text = a.text; script = subst (λ (l : List Request). Script list groups l a.text) same a.script; wrote = subst (Appends held new) a.part a.wrote })
+complete list groups requests left held new statuses.ReadFault ok short a read write words = absurd (read refl)
+complete list groups requests left held new statuses.WriteFault ok short a read write words = absurd (write refl)
+complete list groups requests left held new statuses.BadWords ok short a read write words = absurd (words refl)
+complete list groups requests left held new (statuses.BadFrame offset) ok short a read write words =
     let parts = split left a.requests requests a.rest a.valid ok a.took in
     absurd (elim a.ends.1 [
       | inl none ↦ no_frame a.rest parts.more parts.begins.rest parts.begins.valid parts.begins.left (subst NoFrame (all_within (frames a.requests) a.rest parts.more (frames requests) parts.all short) none)
       | inr ends ↦ no_whole a.rest parts.more parts.begins.rest parts.begins.valid parts.begins.left (at_end left parts.more parts.known ends.ended) ends.some ends.no_whole
     ])
-complete groups requests left held new statuses.TooLong ok short a read write words =
+complete list groups requests left held new statuses.TooLong ok short a read write words =
     let parts = split left a.requests requests a.rest a.valid ok a.took in
     absurd (omega (arith, a.ends.long, ap length parts.all, length-append (frames a.requests ++ a.rest) parts.more))
-complete groups requests left held new statuses.OutOfMemory ok short a read write words = inr refl
+complete list groups requests left held new statuses.OutOfMemory ok short a read write words = inr refl

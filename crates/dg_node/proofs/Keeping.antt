@@ -1,6 +1,6 @@
 -- What the state and its groups keep through each entry of the history.
 use Rattle.std.proofs.Common.{◌≡◌, ℕ, zero, suc, ◌-◌, ◌^◌, ◌<◌, ◌≤◌, Bool, true, false, cond, List, [], ◌∷◌, ◌++◌, map, refl, inl, ap, subst, sym, ◌∙◌, arith, append_assoc}
-use Rattle.std.specs.Prelude.{nat_le, Result, Ok, Err, IfOk, IfErr, OnOk, OnErr, None}
+use Rattle.std.specs.Prelude.{Result, Ok, Err, IfOk, IfErr, OnOk, OnErr, None}
 use Rattle.std.specs.List.{AllByRecursion}
 use Rattle.dg_sets.proofs.Sets.{all_with}
 use Rattle.dg_schema.specs.declared.definition.PredDef.{PredDef}
@@ -21,10 +21,10 @@ use Rattle.dg_zero.specs.declared.tablets.Place.{Place}
 use Rattle.dg_zero.specs.Places.{Places, places, places_after, copies, groups, tablets, fresh, fresh_place}
 use Rattle.dg_zero.specs.Pasts.{own, spent}
 use Rattle.dg_zero.specs.Records.{next_record}
-use Rattle.dg_zero.specs.States.{Zero, and_then, owners, alter_of, alter_record, commit_of, AreAlterParts, IsRefusal}
-use Rattle.dg_zero.specs.Worlds.{World, world, world_after, world_at, stamp, schema, schema_at, graph_at}
+use Rattle.dg_zero.specs.States.{Zero, and_then, owners, alter_of, alter_record, commit_of, IsRefusal}
+use Rattle.dg_zero.specs.Worlds.{World, world, schema, graph_at}
 use Rattle.dg_zero.proofs.Histories.{places_push}
-use Rattle.dg_zero.proofs.LawsOfHistories.{world_at_push, present_is_last}
+use Rattle.dg_zero.proofs.LawsOfHistories.{present_is_last}
 use Rattle.dg_zero.proofs.SpentTimestamps.{spent_keeps}
 use Rattle.dg_edges.proofs.ExactHistories.{histories_are_exact}
 use Rattle.dg_group.specs.Groups.{Group}

@@ -1,19 +1,17 @@
 -- Steps of the engine, from those of the machine.
 use Rattle.std.proofs.Common.{◌≡◌, ℕ, inl, inr, List, refl, subst, sym, Ok, Err}
 use Rattle.std.specs.Prelude.{Result, IfOk, OnErr}
+use Rattle.dg_check.specs.declared.patterns.Refusal.{Refusal as BadPattern}
 use Rattle.dg_wire.specs.declared.refusal.Refusal.TheVariants as refusals
 use Rattle.dg_wire.specs.declared.reply.Reply.{Reply}
 use Rattle.dg_wire.specs.declared.reply.Reply.TheVariants as replies
 use Rattle.dg_wire.specs.declared.request.Request.{Request}
 use Rattle.dg_wire.specs.declared.request.Request.TheVariants as requests
-use Rattle.dg_node.specs.Bodies.{Asks}
-use Rattle.dg_node.specs.Kept.{Held}
+use Rattle.dg_node.specs.Held.{Held}
 use Rattle.dg_node.specs.Machine.{Machine}
-use Rattle.dg_node.specs.Queries.{queried, Queries}
+use Rattle.dg_node.specs.Queries.{Queries}
 use Rattle.dg_node.specs.Transactions.{discarded, HasChanges}
 use Rattle.dg_node.specs.State.{machine_of, Leads, Stays, MayWant}
-use Rattle.dg_node.proofs.Standing.{Stands}
-use Rattle.dg_node.proofs.Leading.{Legal, to_all, from_to}
 use Rattle.dg_node.specs.Steps.{Outcome, Spares, Step, TakesMemory}
 
 -- what follows from a step follows from where it leads
@@ -26,14 +24,15 @@ leads_nowhere before after step f stays = record { leads = subst (λ (n : Machin
 
 spares_all : (r : Request) (m : Machine) → Spares r m m
 spares_all (requests.Begin sid) m = inl refl
+spares_all (requests.Mutate sid body) m = inl refl
 spares_all r m = refl
 
-pub step_made : (before after : Held) (r : Request) (p : Reply) → Leads before (λ m n. Outcome m r p n) after → Leads before (λ m n. Step m r p n) after
-step_made before after r p leads = leads_by before after (λ m n. Outcome m r p n) (λ m n. Step m r p n) (λ m n o. inl o) leads
+pub step_made : (list : List BadPattern) (before after : Held) (r : Request) (p : Reply) → Leads before (λ m n. Outcome list m r p n) after → Leads before (λ m n. Step list m r p n) after
+step_made list before after r p leads = leads_by before after (λ m n. Outcome list m r p n) (λ m n. Step list m r p n) (λ m n o. inl o) leads
 
 -- memory was wanting, and no more was left than may be then
-pub step_spared : (before after : Held) (r : Request) → Leads before (λ m n. Spares r m n) after → MayWant before r → Leads before (λ m n. Step m r (replies.Refused refusals.Memory) n) after
-step_spared before after r leads wants =
+pub step_spared : (list : List BadPattern) (before after : Held) (r : Request) → Leads before (λ m n. Spares r m n) after → MayWant before r → Leads before (λ m n. Step list m r (replies.Refused refusals.Memory) n) after
+step_spared list before after r leads wants =
     record { leads = inr (record { takes = wants; free = refl; spared = leads.leads }) }
 
 -- where the machine stays, no more is left
@@ -41,34 +40,23 @@ pub err_spared : {A E : Type 0} (r : Result A E) (before after : Held) (request 
 err_spared (Ok x) before after request stays = tt
 err_spared (Err x) before after request stays = leads_nowhere before after (λ m n. Spares request m n) (spares_all request) stays
 
-pub begin_spared : {A E : Type 0} (r : Result A E) (before after : Held) (request : Request) (sid : ℕ) → request ≡ requests.Begin sid → OnErr r (Leads before (λ m n. Spares (requests.Begin sid) m n) after) → OnErr r (Leads before (λ m n. Spares request m n) after)
-begin_spared r before after request sid e leads = subst (λ (q : Request). OnErr r (Leads before (λ m n. Spares q m n) after)) (sym e) leads
+pub spared_by : {A E : Type 0} (r : Result A E) (before after : Held) (request q : Request) → request ≡ q → OnErr r (Leads before (λ m n. Spares q m n) after) → OnErr r (Leads before (λ m n. Spares request m n) after)
+spared_by r before after request q e leads = subst (λ (s : Request). OnErr r (Leads before (λ m n. Spares s m n) after)) (sym e) leads
 
 -- the same for what is answered, if it is
 pub ok_by : {E : Type 0} (r : Result Reply E) (before after : Held) (one other : Reply → Machine → Machine → Type 0) → ((p : Reply) (m n : Machine) → one p m n → other p m n) → IfOk r (λ p. Leads before (one p) after) → IfOk r (λ p. Leads before (other p) after)
 ok_by (Ok p) before after one other f leads = leads_by before after (one p) (other p) (f p) leads
 ok_by (Err e) before after one other f leads = tt
 
--- the same where the engine stands for the machine
-pub ok_led : {E : Type 0} (r : Result Reply E) (before after : Held) → Legal before → (one other : Reply → Machine → Machine → Type 0) → ((p : Reply) (m n : Machine) → Stands before m → one p m n → other p m n) → IfOk r (λ p. Leads before (one p) after) → IfOk r (λ p. Leads before (other p) after)
-ok_led (Ok p) before after legal one other f leads = from_to legal (λ m s. let l = to_all leads m s in (l.0, f p m l.0 s l.1, l.2))
-ok_led (Err e) before after legal one other f leads = tt
-
--- ---- a body that is built
-
-pub queries_built : {E : Type 0} (r : Result Reply E) (engine : Held) (sid : ℕ) (body : List ℕ) (uid : ℕ) (name : List ℕ) → Asks body uid name → IfOk r (λ p. Leads engine (λ m n. queried m sid uid name ≡ (p, n)) engine) → IfOk r (λ p. Leads engine (λ m n. Queries m sid body p n) engine)
-queries_built r engine sid body uid name form leads =
-    ok_by r engine engine (λ p m n. queried m sid uid name ≡ (p, n)) (λ p m n. Queries m sid body p n) (λ p m n o. inl (record { uid = uid; name = name; form = form; outcome = o })) leads
-
 -- ---- a request, by its verb
 
-pub query_led : {E : Type 0} (r : Result Reply E) (engine : Held) (request : Request) (sid : ℕ) (body text : List ℕ) → request ≡ requests.Query sid body → text ≡ body → IfOk r (λ p. Leads engine (λ m n. Queries m sid text p n) engine) → IfOk r (λ p. Leads engine (λ m n. Outcome m request p n) engine)
-query_led r engine request sid body text e f leads =
-    subst (λ (q : Request). IfOk r (λ p. Leads engine (λ m n. Outcome m q p n) engine)) (sym e)
-    (subst (λ (b : List ℕ). IfOk r (λ p. Leads engine (λ m n. Queries m sid b p n) engine)) f leads)
+pub query_led : {E : Type 0} (list : List BadPattern) (r : Result Reply E) (engine : Held) (request : Request) (sid : ℕ) (body text : List ℕ) → request ≡ requests.Query sid body → text ≡ body → IfOk r (λ p. Leads engine (λ m n. Queries list m sid text p n) engine) → IfOk r (λ p. Leads engine (λ m n. Outcome list m request p n) engine)
+query_led list r engine request sid body text e f leads =
+    subst (λ (q : Request). IfOk r (λ p. Leads engine (λ m n. Outcome list m q p n) engine)) (sym e)
+    (subst (λ (b : List ℕ). IfOk r (λ p. Leads engine (λ m n. Queries list m sid b p n) engine)) f leads)
 
-pub discard_led : (p : Reply) (before after : Held) (request : Request) (sid : ℕ) → request ≡ requests.Discard sid → Leads before (λ m n. discarded m sid ≡ (p, n)) after → Leads before (λ m n. Outcome m request p n) after
-discard_led p before after request sid e leads = subst (λ (q : Request). Leads before (λ m n. Outcome m q p n) after) (sym e) leads
+pub discard_led : (list : List BadPattern) (p : Reply) (before after : Held) (request : Request) (sid : ℕ) → request ≡ requests.Discard sid → Leads before (λ m n. discarded m sid ≡ (p, n)) after → Leads before (λ m n. Outcome list m request p n) after
+discard_led list p before after request sid e leads = subst (λ (q : Request). Leads before (λ m n. Outcome list m q p n) after) (sym e) leads
 
 -- whatever comes of it, its calls take memory
 pub takes_memory : {A E : Type 0} (r : Result A E) (engine : Held) (request q : Request) → request ≡ q → ((m : Machine) → TakesMemory m q) → OnErr r (MayWant engine request)

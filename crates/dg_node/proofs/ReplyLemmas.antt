@@ -1,7 +1,6 @@
 -- What the machine answers, case by case.
 use Rattle.std.proofs.Common.{◌≡◌, ◌≢◌, ℕ, ◌+◌, ◌<◌, ◌≤◌, ◌^◌, ◌-◌, true, false, List, [], ◌∷◌, ◌++◌, Option, Some, None, refl, ap, sym, ◌∙◌, arith}
-use Rattle.std.specs.Prelude.{◌==◌, nat_lt, is_some, position, find, map}
-use Rattle.std.specs.List.{list_any}
+use Rattle.std.specs.Prelude.{nat_lt}
 use Rattle.std.proofs.lemmas.Grind.{common_steps}
 use Rattle.dg_schema.specs.declared.definition.PredDef.{PredDef}
 use Rattle.dg_graph.specs.declared.change.Change.{Change}
@@ -9,17 +8,9 @@ use Rattle.dg_wire.specs.declared.refusal.Refusal.{Refusal}
 use Rattle.dg_wire.specs.declared.refusal.Refusal.TheVariants as refusals
 use Rattle.dg_wire.specs.declared.reply.Reply.{Reply}
 use Rattle.dg_wire.specs.declared.reply.Reply.TheVariants as replies
-use Rattle.dg_zero.specs.States.{Zero}
-use Rattle.dg_node.specs.declared.engine.Opened.{Opened}
 use Rattle.dg_node.specs.Machine.{Machine, Session, session_of, is_open, with_session, without_session, drawn}
 use Rattle.dg_node.specs.Alters.{least_start, first_with_data, present_schema, present_graph, declared, declared_unless, altered}
 use Rattle.dg_node.specs.Transactions.{begun, committed, committed_with, committed_unless, clash_of, with_commit, discarded}
-use Rattle.dg_node.specs.Queries.{queried, answered, answer_in}
-use Rattle.dg_node.specs.Kept.{IsKept}
-use Rattle.dg_node.specs.State.{session_from}
-use Rattle.dg_node.proofs.Standing.{StandFor}
-use Rattle.dg_node.proofs.OneAmong.{around, some_found}
-use Rattle.dg_node.proofs.SessionLemmas.{open_here}
 
 abbrev Pair : Type 0
 Pair = Reply × Machine
@@ -41,59 +32,38 @@ begin_spent m sid spent none end e = rw (none, not_less m.next end, e) refl
 pub begun_already : (m : Machine) (sid : ℕ) → is_open m sid ≡ true → ◌≡◌ {A = Pair} (begun m sid) (replies.Refused (refusals.SessionOpen sid), m)
 begun_already m sid opens = rw opens refl
 
--- whether a session is open, by its place
-pub some_open : (z : Zero) (os : List Opened) (sid : ℕ) (found : Option ℕ) (m : Machine) → IsKept z os → found ≡ position (λ (o : Opened). o.sid == sid) os → is_some found ≡ true → StandFor z os m → is_open m sid ≡ true
-some_open z os sid None m k e there s = absurd (cc)
-some_open z os sid (Some place) m k e there s = ap is_some (open_here z os k sid place (around (λ (o : Opened). o.sid) sid os place (sym e)) m s)
-
-pub not_some : (os : List Opened) (sid : ℕ) (found : Option ℕ) → found ≡ position (λ (o : Opened). o.sid == sid) os → is_some found ≡ false → position (λ (o : Opened). o.sid == sid) os ≡ None
-not_some os sid None e none = sym e
-not_some os sid (Some place) e none = absurd (cc)
-
--- ---- discard
-
-pub discarded_is : (os : List Opened) (m : Machine) (sid place : ℕ) → m.sessions ≡ map session_from os → position (λ (o : Opened). o.sid == sid) os ≡ Some place → ◌≡◌ {A = Pair} (discarded m sid) (replies.Discard sid, without_session m sid)
-discarded_is os m sid place s e =
-    let there : is_open m sid ≡ true = ap (λ (l : List Session). is_some (find (λ (session : Session). session.sid == sid) l)) s ∙ some_found session_from (λ (session : Session). session.sid) sid os place e in
-    rw there refl
-
 -- ---- commit
 
 with_changes : (m : Machine) (session : Session) (own : List Change) → own ≢ [] → ◌≡◌ {A = Pair} (committed_with m session own) (committed_unless m session (clash_of m session))
 with_changes m session [] some = absurd (some refl)
 with_changes m session (change ∷ own) some = refl
 
-module _ (m : Machine) (sid : ℕ) (o : Opened) (opens : session_of m sid ≡ Some (session_from o)) (is : o.sid ≡ sid) where
-  without_changes : (own : List Change) → own ≡ [] → ◌≡◌ {A = Pair} (committed_with m (session_from o) own) (replies.Commit o.sid 0, without_session m o.sid)
+module _ (m : Machine) (sid : ℕ) (s : Session) (opens : session_of m sid ≡ Some s) (is : s.sid ≡ sid) where
+  without_changes : (own : List Change) → own ≡ [] → ◌≡◌ {A = Pair} (committed_with m s own) (replies.Commit s.sid 0, without_session m s.sid)
   without_changes [] e = refl
   without_changes (change ∷ own) e = absurd (cc)
 
-  pub nothing_committed : o.txn.own ≡ [] → ◌≡◌ {A = Pair} (committed m sid) (replies.Commit sid 0, without_session m sid)
-  nothing_committed none = rw opens (without_changes o.txn.own none ∙ (λ i. (replies.Commit (is i) 0, without_session m (is i))))
+  pub nothing_committed : s.own ≡ [] → ◌≡◌ {A = Pair} (committed m sid) (replies.Commit sid 0, without_session m sid)
+  nothing_committed none = rw opens (without_changes s.own none ∙ (λ i. (replies.Commit (is i) 0, without_session m (is i))))
 
-  unless : o.txn.own ≢ [] → ◌≡◌ {A = Pair} (committed m sid) (committed_unless m (session_from o) (clash_of m (session_from o)))
-  unless some = rw opens (with_changes m (session_from o) o.txn.own some)
+  unless : s.own ≢ [] → ◌≡◌ {A = Pair} (committed m sid) (committed_unless m s (clash_of m s))
+  unless some = rw opens (with_changes m s s.own some)
 
-  pub committed_is : (ts : ℕ) → o.txn.own ≢ [] → clash_of m (session_from o) ≡ None → m.next < 2 ^ 62 → ts ≡ m.next → ◌≡◌ {A = Pair} (committed m sid) (replies.Commit sid ts, without_session (drawn (with_commit m (session_from o)) (m.next + 1)) sid)
+  pub committed_is : (ts : ℕ) → s.own ≢ [] → clash_of m s ≡ None → m.next < 2 ^ 62 → ts ≡ m.next → ◌≡◌ {A = Pair} (committed m sid) (replies.Commit sid ts, without_session (drawn (with_commit m s) (m.next + 1)) sid)
   committed_is ts some clear lt e =
-      unless some ∙ (ap (λ (r : Option Refusal). committed_unless m (session_from o) r) clear
-      ∙ (rw (less m.next lt) refl ∙ (λ i. (replies.Commit (is i) (back i), without_session (drawn (with_commit m (session_from o)) (m.next + 1)) (is i)))))
+      unless some ∙ (ap (λ (r : Option Refusal). committed_unless m s r) clear
+      ∙ (rw (less m.next lt) refl ∙ (λ i. (replies.Commit (is i) (back i), without_session (drawn (with_commit m s) (m.next + 1)) (is i)))))
     where
       back : m.next ≡ ts
       back = sym e
 
-  pub commit_clashes : (refusal : Refusal) → o.txn.own ≢ [] → clash_of m (session_from o) ≡ Some refusal → ◌≡◌ {A = Pair} (committed m sid) (replies.Refused refusal, without_session m sid)
+  pub commit_clashes : (refusal : Refusal) → s.own ≢ [] → clash_of m s ≡ Some refusal → ◌≡◌ {A = Pair} (committed m sid) (replies.Refused refusal, without_session m sid)
   commit_clashes refusal some clash =
-      unless some ∙ (ap (λ (r : Option Refusal). committed_unless m (session_from o) r) clash ∙ (λ i. (replies.Refused refusal, without_session m (is i))))
+      unless some ∙ (ap (λ (r : Option Refusal). committed_unless m s r) clash ∙ (λ i. (replies.Refused refusal, without_session m (is i))))
 
-  pub commit_spent : (spent : ℕ) → o.txn.own ≢ [] → clash_of m (session_from o) ≡ None → m.next ≡ 2 ^ 62 → spent ≡ m.next → ◌≡◌ {A = Pair} (committed m sid) (replies.Refused (refusals.TimestampsSpent spent), m)
+  pub commit_spent : (spent : ℕ) → s.own ≢ [] → clash_of m s ≡ None → m.next ≡ 2 ^ 62 → spent ≡ m.next → ◌≡◌ {A = Pair} (committed m sid) (replies.Refused (refusals.TimestampsSpent spent), m)
   commit_spent spent some clear end e =
-      unless some ∙ (ap (λ (r : Option Refusal). committed_unless m (session_from o) r) clear ∙ rw (not_less m.next end, e) refl)
-
-  -- ---- the others
-
-  pub queried_is : (uid : ℕ) (name : List ℕ) → ◌≡◌ {A = Pair} (queried m sid uid name) (answered m sid (answer_in m (session_from o) uid name))
-  queried_is uid name = rw opens refl
+      unless some ∙ (ap (λ (r : Option Refusal). committed_unless m s r) clear ∙ rw (not_less m.next end, e) refl)
 
 module _ (m : Machine) (sid : ℕ) (closed : session_of m sid ≡ None) where
   pub no_commit : ◌≡◌ {A = Pair} (committed m sid) (replies.Refused (refusals.NoSession sid), m)
@@ -101,9 +71,6 @@ module _ (m : Machine) (sid : ℕ) (closed : session_of m sid ≡ None) where
 
   pub no_discard : ◌≡◌ {A = Pair} (discarded m sid) (replies.Refused (refusals.NoSession sid), m)
   no_discard = rw closed refl
-
-  pub no_query : (uid : ℕ) (name : List ℕ) → ◌≡◌ {A = Pair} (queried m sid uid name) (replies.Refused (refusals.NoSession sid), m)
-  no_query uid name = rw closed refl
 
 -- ---- alter
 

@@ -23,14 +23,13 @@ use Rattle.dg_zero.specs.Verdicts.{commits, commit_of}
 use Rattle.dg_zero.specs.Worlds.{World, world_at, world_after, world_upto, world, schema, stamp, schema_at, graph_at, changes_of}
 use Rattle.dg_zero.proofs.Histories.{next_push, commits_push}
 use Rattle.dg_zero.proofs.LawsOfHistories.{world_at_push, present_is_last}
-use Rattle.dg_node.specs.declared.engine.Opened.{Opened}
 use Rattle.dg_node.specs.Schemas.{Alter}
 use Rattle.dg_node.specs.Schemas as machines
 use Rattle.dg_node.specs.Graphs.{Commit, committed_at}
 use Rattle.dg_node.specs.Machine.{Machine, Session}
 use Rattle.dg_node.specs.Transactions.{keys_at, keyed}
-use Rattle.dg_node.specs.State.{alter_of, alters, asked_of, asked_by, IsDrawn, session_from}
-use Rattle.dg_node.proofs.Standing.{StandFor}
+use Rattle.dg_node.specs.State.{alter_of, alters, asked_of, asked_by, IsDrawn}
+use Rattle.dg_node.proofs.Standing.{StandBeside}
 use Rattle.dg_node.proofs.MachineLemmas.{schemas_are, schema_before, graph_beside, graph_before, graph_there, IsSeenAlike, all_keyed_alike, all_from, drawn_later}
 
 pub alters_push : (h : List Entry) (e : Entry) → alters (h ++ e ∷ []) ≡ alters h ++ alter_of e.event
@@ -49,8 +48,8 @@ pub record IsQuiet (event : Event) : Type 0 where
   pub none_asked : asked_of event ≡ []
   pub same_world : (w : World) → world_after w event ≡ w
 
-module _ (z : Zero) (os : List Opened) (m : Machine) (s : StandFor z os m) (author : ℕ) where
-  pub stand_quiet : (event : Event) (ps : List Opened) (sessions : List Session) (later uid : ℕ) → IsQuiet event → later ≡ m.next + drawn event → uid ≡ next_uid_after m.next_uid event → sessions ≡ map session_from ps → StandFor (and_then z author event) ps (record { groups = m.groups; next = later; next_uid = uid; alters = m.alters; commits = m.commits; sessions = sessions })
+module _ (z : Zero) (os : List Session) (m : Machine) (s : StandBeside z os m) (author : ℕ) where
+  pub stand_quiet : (event : Event) (ps : List Session) (sessions : List Session) (later uid : ℕ) → IsQuiet event → later ≡ m.next + drawn event → uid ≡ next_uid_after m.next_uid event → sessions ≡ ps → StandBeside (and_then z author event) ps (record { groups = m.groups; next = later; next_uid = uid; alters = m.alters; commits = m.commits; sessions = sessions })
   stand_quiet event ps sessions later uid q is uid_there same =
       let e : Entry = record { author = author; event = event } in
       let grown = next_push z.history e in
@@ -71,7 +70,7 @@ module _ (z : Zero) (os : List Opened) (m : Machine) (s : StandFor z os m) (auth
 
   -- ---- an alter
 
-  pub stand_alter : (newer : List PredDef) (parts : List Part) → StandFor (and_then z author (states.alter_of z newer parts)) os (record { groups = m.groups; next = m.next + 2; next_uid = m.next_uid; alters = m.alters ++ (record { start = m.next; ts = m.next + 1; definitions = newer }) ∷ []; commits = m.commits; sessions = m.sessions })
+  pub stand_alter : (newer : List PredDef) (parts : List Part) → StandBeside (and_then z author (states.alter_of z newer parts)) os (record { groups = m.groups; next = m.next + 2; next_uid = m.next_uid; alters = m.alters ++ (record { start = m.next; ts = m.next + 1; definitions = newer }) ∷ []; commits = m.commits; sessions = m.sessions })
   stand_alter newer parts =
       let event : Event = states.alter_of z newer parts in
       let e : Entry = record { author = author; event = event } in
@@ -106,7 +105,7 @@ module _ (z : Zero) (os : List Opened) (m : Machine) (s : StandFor z os m) (auth
     pub keys_same : offer.keys ≡ conflict_keys (schema_at z.history start) (graph_at z.history start []) own
     pub parts_do : after_changes (schema z.history) (world z.history).graph own ≡ after_changes (schema z.history) (world z.history).graph (changes_of offer.parts)
 
-  pub stand_commit : (offer : Offer) (ts start : ℕ) (own : List Change) (ps : List Opened) (sessions : List Session) → ts ≡ next z.history → IsCommittedAs start own offer → sessions ≡ map session_from ps → StandFor (and_then z author (states.commit_of offer ts)) ps (record { groups = m.groups; next = m.next + 1; next_uid = m.next_uid; alters = m.alters; commits = m.commits ++ (record { start = start; ts = m.next; changes = own }) ∷ []; sessions = sessions })
+  pub stand_commit : (offer : Offer) (ts start : ℕ) (own : List Change) (ps : List Session) (sessions : List Session) → ts ≡ next z.history → IsCommittedAs start own offer → sessions ≡ ps → StandBeside (and_then z author (states.commit_of offer ts)) ps (record { groups = m.groups; next = m.next + 1; next_uid = m.next_uid; alters = m.alters; commits = m.commits ++ (record { start = start; ts = m.next; changes = own }) ∷ []; sessions = sessions })
   stand_commit offer ts start own ps sessions ts_is is same =
       let event : Event = states.commit_of offer ts in
       let e : Entry = record { author = author; event = event } in

@@ -6,31 +6,26 @@ use Rattle.dg_zero.specs.Counters.{next, next_uid}
 use Rattle.dg_zero.specs.States.{Zero}
 use Rattle.dg_zero.specs.Verdicts.{commits}
 use Rattle.dg_zero.specs.Worlds.{world_at}
-use Rattle.dg_node.specs.declared.engine.Opened.{Opened}
-use Rattle.dg_node.specs.Kept.{Held}
 use Rattle.dg_node.specs.Graphs.{committed_at}
-use Rattle.dg_node.specs.Machine.{Machine}
-use Rattle.dg_node.specs.State.{session_from, alters, asked_by, machine_of, IsDrawn}
+use Rattle.dg_node.specs.Machine.{Machine, Session}
+use Rattle.dg_node.specs.State.{alters, asked_by, machine_beside, IsDrawn}
 use Rattle.dg_node.specs.Transactions.{keyed}
 
--- a machine that has all that the engine's has, and agrees with the history
-pub record StandFor (zero : Zero) (opened : List Opened) (machine : Machine) : Type 0 where
+-- a machine that has all that a history's has with these sessions, and agrees with the history
+pub record StandBeside (zero : Zero) (sessions : List Session) (machine : Machine) : Type 0 where
   pub groups_are : machine.groups ≡ zero.groups
   pub next_is : machine.next ≡ next zero.history
   pub uid_is : machine.next_uid ≡ next_uid zero.history
   pub alters_are : machine.alters ≡ alters zero.history
   pub commits_are : machine.commits ≡ asked_by zero.history
-  pub sessions_are : machine.sessions ≡ map session_from opened
+  pub sessions_are : machine.sessions ≡ sessions
   pub keys_are : map (keyed machine) machine.commits ≡ commits zero.history
   pub drawn : AllByRecursion (IsDrawn machine.next) machine.commits
   pub graphs_are : (at : ℕ) → committed_at machine.alters machine.commits at ≡ (world_at zero.history at).graph
 
-abbrev pub Stands : Held → Machine → Type 0
-Stands held machine = StandFor held.zero held.opened machine
-
--- it is the engine's
-pub is_machine : (held : Held) (m : Machine) → Stands held m → m ≡ machine_of held
-is_machine held m s = λ i. record {
+-- it is that one
+pub is_beside : (z : Zero) (ss : List Session) (m : Machine) → StandBeside z ss m → m ≡ machine_beside z ss
+is_beside z ss m s = λ i. record {
   groups = s.groups_are i;
   next = s.next_is i;
   next_uid = s.uid_is i;

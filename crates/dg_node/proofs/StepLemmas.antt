@@ -12,12 +12,22 @@ use Rattle.dg_nquad.specs.declared.fault.NquadFault.TheVariants as texts
 use Rattle.dg_nquad.specs.declared.mutation.Statement.{Statement}
 use Rattle.dg_nquad.specs.Whole.{mutation}
 use Rattle.dg_edges.proofs.ResolveLaws.{resolves_once}
+use Rattle.dg_schema.specs.declared.definition.PredDef.{PredDef}
+use Rattle.dg_graph.specs.declared.change.Triple.{Triple}
+use Rattle.dg_parse.specs.declared.fault.DqlFault.{DqlFault}
+use Rattle.dg_parse.specs.declared.fault.DqlFault.TheVariants as queries
+use Rattle.dg_parse.specs.declared.query.Query.{Query}
+use Rattle.dg_parse.specs.Whole.{query_of}
+use Rattle.dg_check.specs.declared.fault.CheckFault.{CheckFault}
+use Rattle.dg_check.specs.Faults.{fault_of}
 use Rattle.dg_node.specs.Schemas.{schema_at}
+use Rattle.dg_node.specs.Graphs.{graph_at}
 use Rattle.dg_node.specs.Machine.{Machine, Session, session_of, empty}
 use Rattle.dg_node.specs.Mutations.{mutated, MutatesBy, MutatesAs, MutatesText, MutatesIn}
-use Rattle.dg_node.specs.Queries.{queried, Queries}
+use Rattle.dg_node.specs.Queries.{IsFound, answer_or_fault, QueriesBy, QueriesForm, QueriesAs, QueriesText, QueriesIn}
+use Rattle.dg_node.specs.Flat.{is_flat}
 use Rattle.dg_node.specs.Steps.{Outcome, Step, Steps, HadMemory, IsDetermined}
-use Rattle.dg_node.proofs.ScanLemmas.{asks_one}
+use Rattle.dg_node.proofs.Refusing.{none_found, fault_there}
 
 abbrev Pair : Type 0
 Pair = Reply × Machine
@@ -45,29 +55,55 @@ mutates_one : (old : Machine) (sid : ℕ) (body : List ℕ) (found : Option Sess
 mutates_one old sid body (Some session) p q a b x y = text_one old session body (utf8_valid_len body == length body) p q a b x y
 mutates_one old sid body None p q a b x y = sym x ∙ y
 
-queries_one : (old : Machine) (sid : ℕ) (body : List ℕ) (p q : Reply) (a b : Machine) → Queries old sid body p a → Queries old sid body q b → Same p q a b
-queries_one old sid body p q a b (inl x) (inl y) =
-    let same = asks_one body x.uid y.uid x.name y.name x.form y.form in
-    sym x.outcome ∙ ap (λ (u : ℕ). queried old sid u x.name) same.0 ∙ ap (queried old sid y.uid) same.1 ∙ y.outcome
-queries_one old sid body p q a b (inl x) (inr y) = absurd (y.other x.uid x.name x.form)
-queries_one old sid body p q a b (inr x) (inl y) = absurd (x.other y.uid y.name y.form)
-queries_one old sid body p q a b (inr x) (inr y) = sym x.outcome ∙ y.outcome
+-- with no pattern refused the checks find one thing
+found_one : (schema : List PredDef) (query : Query) (some other : Option CheckFault) → IsFound schema [] query some → IsFound schema [] query other → some ≡ other
+found_one schema query None None x y = refl
+found_one schema query None (Some fault) x y = absurd (none_found schema query fault x y)
+found_one schema query (Some fault) None x y = absurd (none_found schema query fault y x)
+found_one schema query (Some fault) (Some more) x y = ap Some (one_fault (fault_of schema query) fault more (fault_there schema query fault x) (fault_there schema query more y))
+  where
+    one_fault : (found : Option CheckFault) (a b : CheckFault) → found ≡ Some a → found ≡ Some b → a ≡ b
+    one_fault found a b e f = cc
 
-pub outcome_one : (old : Machine) (request : Request) (p q : Reply) (a b : Machine) → Outcome old request p a → Outcome old request q b → Same p q a b
+module _ (old : Machine) (sid : ℕ) (schema : List PredDef) (graph : List Triple) where
+  answered_one : (query : Query) (p q : Reply) (a b : Machine) → QueriesBy [] old sid schema graph query p a → QueriesBy [] old sid schema graph query q b → Same p q a b
+  answered_one query p q a b x y =
+      sym x.outcome ∙ ap (answer_or_fault old sid schema graph query) (found_one schema query x.fault y.fault x.found y.found) ∙ y.outcome
+
+  form_one : (query : Query) (flat : Bool) (p q : Reply) (a b : Machine) → QueriesForm [] old sid schema graph query flat p a → QueriesForm [] old sid schema graph query flat q b → Same p q a b
+  form_one query true p q a b x y = answered_one query p q a b x y
+  form_one query false p q a b x y = sym x ∙ y
+
+  said_one : (read : Result Query DqlFault) (p q : Reply) (a b : Machine) → QueriesAs [] old sid schema graph read p a → QueriesAs [] old sid schema graph read q b → Same p q a b
+  said_one (Ok query) p q a b x y = form_one query (is_flat query) p q a b x y
+  said_one (Err (queries.BadToken offset)) p q a b x y = sym x ∙ y
+  said_one (Err (queries.TooDeep offset)) p q a b x y = sym x ∙ y
+  said_one (Err (queries.BadSyntax offset)) p q a b x y = sym x ∙ y
+  said_one (Err queries.OutOfMemory) p q a b x y = absurd x
+
+  body_one : (body : List ℕ) (whole : Bool) (p q : Reply) (a b : Machine) → QueriesText [] old sid schema graph body whole p a → QueriesText [] old sid schema graph body whole q b → Same p q a b
+  body_one body true p q a b x y = said_one (query_of body) p q a b x y
+  body_one body false p q a b x y = sym x ∙ y
+
+queries_one : (old : Machine) (sid : ℕ) (body : List ℕ) (found : Option Session) (p q : Reply) (a b : Machine) → QueriesIn [] old sid found body p a → QueriesIn [] old sid found body q b → Same p q a b
+queries_one old sid body (Some session) p q a b x y = body_one old sid (schema_at old.alters session.start) (graph_at old.alters old.commits session.start session.own) body (utf8_valid_len body == length body) p q a b x y
+queries_one old sid body None p q a b x y = sym x ∙ y
+
+pub outcome_one : (old : Machine) (request : Request) (p q : Reply) (a b : Machine) → Outcome [] old request p a → Outcome [] old request q b → Same p q a b
 outcome_one old (requests.Alter body) p q a b x y = sym x ∙ y
 outcome_one old (requests.Begin sid) p q a b x y = sym x ∙ y
 outcome_one old (requests.Mutate sid body) p q a b x y = mutates_one old sid body (session_of old sid) p q a b x y
-outcome_one old (requests.Query sid body) p q a b x y = queries_one old sid body p q a b x y
+outcome_one old (requests.Query sid body) p q a b x y = queries_one old sid body (session_of old sid) p q a b x y
 outcome_one old (requests.Commit sid) p q a b x y = sym x ∙ y
 outcome_one old (requests.Discard sid) p q a b x y = sym x ∙ y
 outcome_one old request p q a b x y = sym x ∙ y
 
-step_one : (old : Machine) (request : Request) (p q : Reply) (a b : Machine) → p ≢ replies.Refused refusals.Memory → q ≢ replies.Refused refusals.Memory → Step old request p a → Step old request q b → Same p q a b
+step_one : (old : Machine) (request : Request) (p q : Reply) (a b : Machine) → p ≢ replies.Refused refusals.Memory → q ≢ replies.Refused refusals.Memory → Step [] old request p a → Step [] old request q b → Same p q a b
 step_one old request p q a b h k (inl x) (inl y) = outcome_one old request p q a b x y
 step_one old request p q a b h k (inl x) (inr y) = absurd (k y.free)
 step_one old request p q a b h k (inr x) y = absurd (h x.free)
 
-steps_one : (old : Machine) (requests : List Request) (ps qs : List Reply) (a b : Machine) → Steps old requests ps a → Steps old requests qs b → HadMemory ps → HadMemory qs → (ps ≡ qs) × (a ≡ b)
+steps_one : (old : Machine) (requests : List Request) (ps qs : List Reply) (a b : Machine) → Steps [] old requests ps a → Steps [] old requests qs b → HadMemory ps → HadMemory qs → (ps ≡ qs) × (a ≡ b)
 steps_one old [] [] [] a b x y h k = (refl, x ∙ sym y)
 steps_one old [] [] (q ∷ qs) a b x y h k = absurd y
 steps_one old [] (p ∷ ps) qs a b x y h k = absurd x
@@ -77,7 +113,7 @@ steps_one old (r ∷ rs) (p ∷ ps) (q ∷ qs) a b x y h k =
     let first = step_one old r p q x.0 y.0 h.0 k.0 x.1 y.1 in
     let reply : p ≡ q = ap (λ (z : Pair). z.0) first in
     let mid : x.0 ≡ y.0 = ap (λ (z : Pair). z.1) first in
-    let rest = steps_one y.0 rs ps qs a b (subst (λ (m : Machine). Steps m rs ps a) mid x.2) y.2 h.1 k.1 in
+    let rest = steps_one y.0 rs ps qs a b (subst (λ (m : Machine). Steps [] m rs ps a) mid x.2) y.2 h.1 k.1 in
     (whole p q ps qs reply rest.0, rest.1)
   where
     whole : (p q : Reply) (ps qs : List Reply) → p ≡ q → ps ≡ qs → p ∷ ps ≡ q ∷ qs

@@ -9,3 +9,8 @@ EachGrew refused [] [] = ⊤
 EachGrew refused [] (maker ∷ more) = ⊥
 EachGrew refused (maker ∷ makers) [] = ⊥
 EachGrew refused (maker ∷ makers) (after ∷ more) = IsFrontOf (refused maker) (refused after) × EachGrew refused makers more
+
+-- what the first maker refused
+abbrev pub first_refused : {P : Type 0} → (P → List Refusal) → List P → List Refusal
+first_refused refused [] = []
+first_refused refused (maker ∷ more) = refused maker

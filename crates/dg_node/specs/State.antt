@@ -6,10 +6,10 @@ use Rattle.dg_zero.specs.declared.entry.Event.{Event}
 use Rattle.dg_zero.specs.declared.entry.Event.TheVariants as events
 use Rattle.dg_zero.specs.Counters.{next, next_uid}
 use Rattle.dg_zero.specs.Legal.{IsLegal}
+use Rattle.dg_zero.specs.States.{Zero}
 use Rattle.dg_zero.specs.Verdicts.{commits}
 use Rattle.dg_zero.specs.Worlds.{world_at}
-use Rattle.dg_node.specs.declared.engine.Opened.{Opened}
-use Rattle.dg_node.specs.Kept.{Held}
+use Rattle.dg_node.specs.Held.{Opened, Held}
 use Rattle.dg_node.specs.Schemas.{Alter}
 use Rattle.dg_node.specs.Graphs.{Commit, committed_at}
 use Rattle.dg_node.specs.Machine.{Machine, Session}
@@ -48,6 +48,17 @@ machine_of held = record {
   alters = alters held.zero.history;
   commits = asked_by held.zero.history;
   sessions = map session_from held.opened;
+}
+
+-- the machine of a history, with these open transactions
+abbrev pub machine_beside : Zero → List Session → Machine
+machine_beside zero sessions = record {
+  groups = zero.groups;
+  next = next zero.history;
+  next_uid = next_uid zero.history;
+  alters = alters zero.history;
+  commits = asked_by zero.history;
+  sessions = sessions;
 }
 
 -- the machine of a history, where no transaction is open

@@ -1,41 +1,59 @@
-// The engine: Zero's state with its groups, and the open transactions.
-ghost use Rattle.std.specs.Prelude.{◌≡◌};
+// The engine: a cluster that no one else uses, and the table of sessions.
+ghost use Rattle.std.specs.Prelude.{◌≡◌, ◌==◌, ◌<◌, IfSome, position, length, slice_get};
+ghost use Rattle.std.specs.Vec.{vec_len, vec_capacity};
+ghost use Rattle.dg_node.specs.Kept.{unless_open, with_opened};
 
+use crate::alters::alter;
+use crate::mutations::mutate;
 use crate::owned::Owned;
+use crate::queries::query;
+use crate::transactions::{begin, commit, discard, no_session};
+use dg_check::Patterns;
 use dg_txn::Txn;
 use dg_values::{Mem, OutOfMemory};
 use dg_wire::{Refusal, Reply};
 use std::alloc::Global;
 use std::marker::Model;
 
-/// An open transaction, and its session.
+// The author of all entries: the one session that appends.
+const AUTHOR: u32 = 0;
+
+/// A session's place in the table: its number, and its transaction, which it lacks for the time of a call alone.
 #[derive(Drop)]
-pub struct Opened {
+pub struct Slot {
     pub sid: u32,
-    pub txn: Txn,
+    pub txn: Option<Txn>,
 }
 
-/// The engine. Contracts see Zero's state and the open transactions, in the order in which they began.
+/// The engine. Contracts see the state of the cluster and the open transactions, in the order in which they began.
 #[derive(Drop)]
 pub struct Engine {
     pub(crate) cluster: Owned,
-    pub(crate) sessions: Vec<Opened>,
+    pub(crate) slots: Vec<Slot>,
 }
 
 impl Model for Engine {
-    ghost use Rattle.dg_node.specs.Kept.{Held, IsKept};
+    ghost use Rattle.dg_node.specs.Held.{Held};
+    ghost use Rattle.dg_node.specs.Kept.{IsKept, opened_of};
 
     ghost Value = { Held };
 
-    ghost view = { λ e. record { zero = e.cluster; opened = e.sessions.items } };
+    ghost view = { λ e. record { zero = e.cluster; opened = opened_of e.slots.items } };
 
-    ghost invariant = { λ e. IsKept e.cluster e.sessions.items };
+    ghost invariant = { λ e. IsKept e.cluster e.slots.items };
 }
 
 impl Engine {
-    ghost use Rattle.std.specs.Prelude.{◌≡◌, ◌==◌, ◌<◌, ◌≤◌, ◌^◌, ℕ, Some, IfOk, IfSome, position, length};
-    ghost use Rattle.dg_node.specs.Machine.{empty, empty_from, without_session};
-    ghost use Rattle.dg_node.specs.State.{StandsFor, Leads};
+    ghost use Rattle.std.specs.Prelude.{◌≡◌, ◌≤◌, ◌^◌, IfOk, OnErr, length};
+    ghost use Rattle.dg_check.specs.Patterns.{IsFrontOf};
+    ghost use Rattle.dg_wire.specs.declared.request.Request.TheVariants.{Begin, Mutate};
+    ghost use Rattle.dg_node.specs.Machine.{empty, empty_from};
+    ghost use Rattle.dg_node.specs.Alters.{alters};
+    ghost use Rattle.dg_node.specs.Mutations.{Mutates};
+    ghost use Rattle.dg_node.specs.Queries.{Queries};
+    ghost use Rattle.dg_node.specs.Steps.{Spares};
+    ghost use Rattle.dg_node.specs.Transactions.{begun, committed, discarded, HasChanges};
+    ghost use Rattle.dg_node.specs.State.{machine_of, StandsFor, Leads, Stays};
 
     /// Nothing is declared, committed or open. The error is want of memory.
     pub fn new(alloc: Global, groups: u32) -> Mem<Self>
@@ -56,32 +74,138 @@ impl Engine {
     {
         Ok(Engine {
             cluster: Owned::starting_at(alloc, groups, next)?,
-            sessions: Vec::new(alloc),
+            slots: Vec::new(alloc),
         })
     }
 
-    /// The place of a session's transaction, where it has one.
-    pub fn place_of(&self, sid: u32) -> Option<usize>
-        ensures place { result ≡ position (λ o. o.sid == sid) self.now.opened }
-        ensures within { IfSome result (λ place. place < length self.now.opened) }
+    /// Adds or replaces definitions. After an error nothing has changed.
+    pub fn alter(&mut self, alloc: Global, body: &[u8]) -> Mem<Reply>
+        requires { length body.now ≤ 1048576 }
+        ensures ok { IfOk result (λ reply. Leads self.old (λ m n. alters m body.now ≡ (reply, n)) self.new) }
+        ensures err { OnErr result (Stays self.old self.new) }
     {
-        self.sessions.iter().position(|o| o.sid == sid)
+        self.cluster.at_rest();
+        alter(alloc, &mut self.cluster, AUTHOR, body)
     }
 
-    /// Ends the transaction at a place, without its changes. It takes no memory.
-    pub fn close(&mut self, place: usize)
-        requires place { place < length self.old.opened }
-        ensures { (sid : ℕ) → position (λ o. o.sid == sid) self.old.opened ≡ Some place → Leads self.old (λ m n. n ≡ without_session m sid) self.new }
+    /// Opens a transaction. After an error none more is open; one timestamp may be drawn, which isn't given back.
+    pub fn begin(&mut self, alloc: Global, sid: u32) -> Mem<Reply>
+        ensures ok { IfOk result (λ reply. Leads self.old (λ m n. begun m sid ≡ (reply, n)) self.new) }
+        ensures err { OnErr result (Leads self.old (λ m n. Spares (Begin sid) m n) self.new) }
     {
-        let opened = self.sessions.remove(place);
-        let (start, end) = opened.txn.close();
-        let _ = self.cluster.end(end, start);
+        if place_of(self.slots.as_slice(), sid).is_some() {
+            return Ok(Reply::Refused(Refusal::SessionOpen { sid }));
+        }
+        self.slots.reserve(1)?;
+        self.cluster.at_rest();
+        let mut session = None;
+        let reply = begin(alloc, &mut self.cluster, &mut session, AUTHOR, sid)?;
+        push_opened(&mut self.slots, sid, session);
+        Ok(reply)
+    }
+
+    /// Adds changes to a transaction's own. After an error the transaction is as it was; the next node may be raised.
+    pub fn mutate(&mut self, alloc: Global, sid: u32, body: &[u8]) -> Mem<Reply>
+        requires { length body.now ≤ 1048576 }
+        ensures ok { IfOk result (λ reply. Leads self.old (λ m n. Mutates m sid body.now reply n) self.new) }
+        ensures err { OnErr result (Leads self.old (λ m n. Spares (Mutate sid body.now) m n) self.new) }
+    {
+        let Some(place) = place_of(self.slots.as_slice(), sid) else {
+            return Ok(no_session(sid));
+        };
+        self.cluster.at_rest();
+        mutate(
+            alloc,
+            &mut self.cluster,
+            &mut self.slots[place].txn,
+            AUTHOR,
+            sid,
+            body,
+        )
+    }
+
+    /// Answers a query. Nothing changes, but that the maker's list of refused patterns may grow.
+    pub fn query<P: Patterns>(
+        &self,
+        alloc: Global,
+        sid: u32,
+        body: &[u8],
+        patterns: &mut P,
+    ) -> Mem<Reply>
+        requires { length body.now ≤ 1048576 }
+        ensures answered { IfOk result (λ reply. Leads self.now (λ m n. Queries (P.refused patterns.new) m sid body.now reply n) self.now) }
+        ensures grows { IsFrontOf (P.refused patterns.old) (P.refused patterns.new) }
+    {
+        self.cluster.at_rest();
+        match place_of(self.slots.as_slice(), sid) {
+            Some(place) => query(alloc, &self.slots[place].txn, sid, body, patterns),
+            None => query(alloc, &None, sid, body, patterns),
+        }
+    }
+
+    /// Ends a transaction with its changes. After an error it is open, and nothing has changed; one without changes ends
+    /// without an error.
+    pub fn commit(&mut self, alloc: Global, sid: u32) -> Mem<Reply>
+        ensures ok { IfOk result (λ reply. Leads self.old (λ m n. committed m sid ≡ (reply, n)) self.new) }
+        ensures err { OnErr result (Stays self.old self.new) }
+        ensures wants { OnErr result (HasChanges (machine_of self.old) sid) }
+    {
+        let Some(place) = place_of(self.slots.as_slice(), sid) else {
+            return Ok(no_session(sid));
+        };
+        self.cluster.at_rest();
+        let reply = commit(
+            alloc,
+            &mut self.cluster,
+            &mut self.slots[place].txn,
+            AUTHOR,
+            sid,
+        );
+        drop_closed(&mut self.slots, place);
+        reply
+    }
+
+    /// Ends a transaction without its changes. It takes no memory.
+    pub fn discard(&mut self, sid: u32) -> Reply
+        ensures { Leads self.old (λ m n. discarded m sid ≡ (result, n)) self.new }
+    {
+        let Some(place) = place_of(self.slots.as_slice(), sid) else {
+            return no_session(sid);
+        };
+        self.cluster.at_rest();
+        let reply = discard(&mut self.cluster, &mut self.slots[place].txn, AUTHOR, sid);
+        drop_closed(&mut self.slots, place);
+        reply
     }
 }
 
-/// The session has no transaction.
-pub fn no_session(sid: u32) -> Reply
-    ensures { result ≡ Reply.Refused (Refusal.NoSession sid) }
+// The place of a session's slot, where it has one.
+fn place_of(slots: &[Slot], sid: u32) -> Option<usize>
+    ensures place { result ≡ position (λ s. s.sid == sid) slots.now }
+    ensures within { IfSome result (λ place. place < length slots.now) }
 {
-    Reply::Refused(Refusal::NoSession { sid })
+    slots.iter().position(|slot| slot.sid == sid)
+}
+
+// Puts a session behind the others, where it has a transaction. There is room for it.
+fn push_opened(slots: &mut Vec<Slot>, sid: u32, session: Option<Txn>)
+    requires room { vec_len slots.old < vec_capacity slots.old }
+    ensures { slots.new.items ≡ with_opened slots.old.items sid session }
+{
+    if let Some(txn) = session {
+        slots.push_reserved(Slot {
+            sid,
+            txn: Some(txn),
+        });
+    }
+}
+
+// Takes out the slot at a place, where its session has no transaction any more.
+fn drop_closed(slots: &mut Vec<Slot>, place: usize)
+    requires place { place < length slots.old.items }
+    ensures { slots.new.items ≡ unless_open slots.old.items place (slice_get slots.old.items place) }
+{
+    if slots[place].txn.is_none() {
+        let _ = slots.remove(place);
+    }
 }

@@ -116,7 +116,7 @@ fn push_blocks<S: Snapshot, L: Ledger>(
     Ok(())
 }
 
-// The text of an answer, by what the plan keeps of the blocks.
+// The same text, by the plan.
 fn planned_answer<S: Snapshot, L: Ledger>(
     alloc: Global,
     snap: &S,
@@ -154,10 +154,9 @@ pub fn flat_answer<S: Snapshot, L: Ledger>(
 ) -> Result<String, TreeFault>
     requires flat { is_flat plan.now.query ≡ true }
     requires plan { IsPlanOf (S.declared snap.now) plan.now.query plan.now }
-    requires lawful { IsLawful (S.declared snap.now) (S.graph snap.now) }
-    ensures text { IfOk result (λ text. string_bytes text ≡ answer_text (flat_answer (S.declared snap.now) (S.graph snap.now) plan.now.query)) }
+    ensures text { IsLawful (S.declared snap.now) (S.graph snap.now) → IfOk result (λ text. string_bytes text ≡ answer_text (flat_answer (S.declared snap.now) (S.graph snap.now) plan.now.query)) }
     ensures within { IfOk result (λ text. length (string_bytes text) ≤ 16777216) }
-    ensures too_large { IsErrOf result TreeFault.TooLarge → 16777216 < length (answer_text (flat_answer (S.declared snap.now) (S.graph snap.now) plan.now.query)) }
+    ensures too_large { IsLawful (S.declared snap.now) (S.graph snap.now) → IsErrOf result TreeFault.TooLarge → 16777216 < length (answer_text (flat_answer (S.declared snap.now) (S.graph snap.now) plan.now.query)) }
 {
     meanings();
     let blocks = plan.query.blocks.as_slice();

@@ -16,6 +16,7 @@ ghost use Rattle.dg_zero.specs.Verdicts.{verdict};
 ghost use Rattle.dg_node.specs.Alters.{first_with_data};
 ghost use Rattle.dg_node.specs.Clusters.{Meets, EndsAt, IsAlterFault as IsHindrance};
 ghost use Rattle.dg_zero.specs.Worlds.{world, schema, schema_at, graph_at};
+ghost use Rattle.dg_node.specs.Owning.{AreAtRest};
 
 use crate::cluster::{Cluster, ClusterFault};
 use crate::current::{new_groups, pinned};
@@ -164,9 +165,15 @@ impl Owned {
     {
         self.zero.commit(slip, offer)
     }
-}
 
-impl Owned {
+    /// The history is legal, and no tablet is being moved, since moves aren't built.
+    pub fn at_rest(&self)
+        ensures legal { IsLegal self.now.groups self.now.history }
+        ensures rest { AreAtRest self.now.history }
+    {
+        let _ = &self.zero;
+    }
+
     // What an alter writes, or why the definitions may not be added now. Nothing is appended.
     fn prepare(&mut self, alloc: Global, newer: &Schema) -> Result<List<Part>, ClusterFault>
         ensures same { self.new ≡ self.old }

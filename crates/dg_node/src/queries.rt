@@ -1,60 +1,140 @@
 // What `query` does.
-ghost use Rattle.std.specs.Prelude.{◌≡◌, ◌<◌, IfOk};
-ghost use Rattle.dg_schema.specs.Definitions.{definition_of};
-ghost use Rattle.dg_graph.specs.Graphs.{objects};
-ghost use Rattle.dg_tree.specs.Texts.{answer_text};
+ghost use Rattle.std.specs.Prelude.{◌≡◌, ◌≢◌, ◌≤◌, ◌<◌, ℕ, true, None, length, IfOk, IsOk};
+ghost use Rattle.dg_check.specs.Outcomes.{IsPlanOf, IsQueryOutcome};
+ghost use Rattle.dg_check.specs.Patterns.{IsFrontOf};
+ghost use Rattle.dg_check.specs.declared.fault.CheckFault.TheVariants as faults;
+ghost use Rattle.dg_graph.specs.Graphs.{IsLawful};
+ghost use Rattle.dg_parse.specs.Whole.{query_of};
 ghost use Rattle.dg_txn.specs.Own.{graph};
-ghost use Rattle.dg_node.specs.Answers.{shown, block_of};
+ghost use Rattle.dg_node.specs.Flat.{is_flat};
 ghost use Rattle.dg_node.specs.Machine.{Machine};
-ghost use Rattle.dg_node.specs.Queries.{answered};
+ghost use Rattle.dg_node.specs.Queries.{Queries, QueriesAs, QueriesBy, answer_or_fault, refusal_of_check};
+ghost use Rattle.dg_node.specs.Sessions.{IsSession, Sees};
+ghost use Rattle.dg_zero.specs.Legal.{IsLegal};
+ghost use Rattle.dg_zero.specs.States.{Zero};
 
-use crate::answers::block_of;
-use crate::bodies::{asked_by, text_of};
-use crate::engine::{Engine, no_session};
+use crate::flat::{flat_answer, is_flat};
 use crate::step::unbuilt;
+use crate::transactions::no_session;
+use dg_check::{CheckFault, Patterns, Plan, check};
 use dg_graph::Snapshot;
-use dg_tree::{Field, TreeFault, answer_text};
+use dg_parse::{DqlFault, Query, parse};
+use dg_tree::TreeFault;
 use dg_txn::Txn;
-use dg_values::{List, Mem, OutOfMemory, Posting, Steps, Str};
+use dg_values::{List, Mem, OutOfMemory, Steps};
 use dg_wire::{Refusal, Reply};
 use std::alloc::Global;
 use std::marker::Brand;
+use std::str;
 use std::sync::ledger::{Blank, Ledger};
 
-impl Engine {
-    ghost use Rattle.std.specs.Prelude.{◌≡◌, true, IfOk};
-    ghost use Rattle.dg_node.specs.Bodies.{is_predicate};
-    ghost use Rattle.dg_node.specs.Queries.{Queries, queried};
-    ghost use Rattle.dg_node.specs.State.{Leads};
-
-    /// Answers for one predicate of one node, where the form is built.
-    pub fn try_query(&self, alloc: Global, sid: u32, body: &[u8]) -> Mem<Reply>
-        ensures { IfOk result (λ reply. Leads self.now (λ m n. Queries m sid body.now reply n) self.now) }
-    {
-        match asked_by(body) {
-            Some((uid, name)) => self.query(alloc, sid, uid, name),
-            None => Ok(unbuilt()),
-        }
-    }
-
-    fn query(&self, alloc: Global, sid: u32, uid: u64, name: &[u8]) -> Mem<Reply>
-        requires name { is_predicate name.now ≡ true }
-        ensures { IfOk result (λ reply. Leads self.now (λ m n. queried m sid uid name.now ≡ (reply, n)) self.now) }
-    {
-        let Some(place) = self.place_of(sid) else {
-            return Ok(no_session(sid));
-        };
-        let p = text_of(alloc, name)?;
-        let block = block_in(alloc, &self.sessions[place].txn, p, uid)?;
-        answer(alloc, sid, block.as_slice())
+/// Answers a query as a session sees the graph. Nothing changes, but that the maker's list of refused patterns may grow.
+///
+/// `NoSession` comes where the session has no transaction; then `BadToken`, `TooDeep` and `BadSyntax` at a fault of the text;
+/// then `Unbuilt` where the query has another form than one level; then what the checks find; then `AnswerTooLarge`. The
+/// error is want of memory.
+pub fn query<P: Patterns>(
+    alloc: Global,
+    session: &Option<Txn>,
+    sid: u32,
+    body: &[u8],
+    patterns: &mut P,
+) -> Mem<Reply>
+    requires size { length body.now ≤ 1048576 }
+    ensures answered { (author : ℕ) (zero : Zero) → IsLegal zero.groups zero.history → IsSession zero author session.now → IfOk result (λ reply. Sees sid session.now (λ m n. Queries (P.refused patterns.new) m sid body.now reply n) zero) }
+    ensures grows { IsFrontOf (P.refused patterns.old) (P.refused patterns.new) }
+{
+    let Some(txn) = session else {
+        return Ok(no_session(sid));
+    };
+    match str::from_utf8(body) {
+        Ok(text) => query_text(alloc, txn, sid, text, patterns),
+        Err(fault) => Ok(Reply::Refused(Refusal::BadToken {
+            offset: fault.valid_up_to() as u64,
+        })),
     }
 }
 
-// The text of an answer, unless it is too large.
-fn answer(alloc: Global, sid: u32, block: &[Field]) -> Mem<Reply>
-    ensures { (m : Machine) → IfOk result (λ reply. answered m sid (answer_text block.now) ≡ (reply, m)) }
+// Answers the query of a text.
+fn query_text<P: Patterns>(
+    alloc: Global,
+    txn: &Txn,
+    sid: u32,
+    text: &str,
+    patterns: &mut P,
+) -> Mem<Reply>
+    requires size { length text.now ≤ 1048576 }
+    ensures answered { IsLawful txn.now.schema (graph txn.now) → (m : Machine) → IfOk result (λ reply. QueriesAs (P.refused patterns.new) m sid txn.now.schema (graph txn.now) (query_of text.now) reply m) }
+    ensures grows { IsFrontOf (P.refused patterns.old) (P.refused patterns.new) }
 {
-    match answer_text(alloc, block) {
+    match parse(alloc, text) {
+        Ok(query) if is_flat(&query) => query_flat(alloc, txn, sid, query, patterns),
+        Ok(_) => Ok(unbuilt()),
+        Err(DqlFault::BadToken { offset }) => Ok(Reply::Refused(Refusal::BadToken {
+            offset: u64::from(offset),
+        })),
+        Err(DqlFault::TooDeep { offset }) => Ok(Reply::Refused(Refusal::TooDeep {
+            offset: u64::from(offset),
+        })),
+        Err(DqlFault::BadSyntax { offset }) => Ok(Reply::Refused(Refusal::BadSyntax {
+            offset: u64::from(offset),
+        })),
+        Err(DqlFault::OutOfMemory) => Err(OutOfMemory),
+    }
+}
+
+// Answers a query of one level, or says what is wrong with it.
+fn query_flat<P: Patterns>(
+    alloc: Global,
+    txn: &Txn,
+    sid: u32,
+    query: Query,
+    patterns: &mut P,
+) -> Mem<Reply>
+    requires flat { is_flat query ≡ true }
+    ensures answered { IsLawful txn.now.schema (graph txn.now) → (m : Machine) → IfOk result (λ reply. QueriesBy (P.refused patterns.new) m sid txn.now.schema (graph txn.now) query reply m) }
+    ensures grows { IsFrontOf (P.refused patterns.old) (P.refused patterns.new) }
+{
+    match check(alloc, query, txn.schema(), patterns) {
+        Ok(plan) => answer::<Brand>(alloc, txn, sid, &plan, Blank::new(1)),
+        Err(fault) => refused_check(fault),
+    }
+}
+
+// The refusal of a fault that the checks find, unless it is want of memory.
+fn refused_check(fault: CheckFault) -> Mem<Reply>
+    ensures refused { IfOk result (λ reply. reply ≡ Reply.Refused (refusal_of_check fault)) }
+    ensures found { IsOk result → fault ≢ faults.OutOfMemory }
+{
+    let refusal = match fault {
+        CheckFault::UnknownVariable { name } => Refusal::UnknownVariable { name },
+        CheckFault::VariableTwice { name } => Refusal::VariableTwice { name },
+        CheckFault::VariableCycle { name } => Refusal::VariableCycle { name },
+        CheckFault::NotIndexed { pred, func } => Refusal::NotIndexed { pred, func },
+        CheckFault::BadLiteral { name } => Refusal::BadLiteral { name },
+        CheckFault::BadPage { argument } => Refusal::BadPage { argument },
+        CheckFault::BadDepth { n } => Refusal::BadDepth { n },
+        CheckFault::OutOfMemory => return Err(OutOfMemory),
+    };
+    Ok(Reply::Refused(refusal))
+}
+
+// The answer of a checked query, on a ledger of its own for the lists that are read.
+fn answer<L: Ledger>(
+    alloc: Global,
+    txn: &Txn,
+    sid: u32,
+    plan: &Plan,
+    blank: Blank,
+) -> Mem<Reply>
+    requires name { blank.name ≡ L.name }
+    requires parts { blank.parts ≡ L.parts }
+    requires some { 0 < blank.parts }
+    requires flat { is_flat plan.now.query ≡ true }
+    requires plan { IsPlanOf txn.now.schema plan.now.query plan.now }
+    ensures { IsLawful txn.now.schema (graph txn.now) → (m : Machine) → IfOk result (λ reply. answer_or_fault m sid txn.now.schema (graph txn.now) plan.now.query None ≡ (reply, m)) }
+{
+    match flat_answer(alloc, txn, plan, &mut Steps::<L>::new(blank)) {
         Ok(text) => Ok(Reply::Query {
             sid,
             body: List::from_vec(text.into_bytes()),
@@ -62,30 +142,4 @@ fn answer(alloc: Global, sid: u32, block: &[Field]) -> Mem<Reply>
         Err(TreeFault::TooLarge) => Ok(Reply::Refused(Refusal::AnswerTooLarge)),
         Err(TreeFault::OutOfMemory) => Err(OutOfMemory),
     }
-}
-
-// What is shown of a predicate of a node in the graph that a transaction sees.
-fn block_in(alloc: Global, txn: &Txn, p: Str, uid: u64) -> Mem<Vec<Field>>
-    ensures { IfOk result (λ block. block.items ≡ block_of p (shown (definition_of txn.now.schema p) (objects (graph txn.now) p uid))) }
-{
-    let objects = seen_by(alloc, txn, &p, uid)?;
-    let definition = txn.schema().lookup(p.as_str());
-    block_of(alloc, p, definition, objects)
-}
-
-// The objects of a subject that a transaction sees.
-fn seen_by(alloc: Global, txn: &Txn, p: &Str, s: u64) -> Mem<Vec<Posting>>
-    ensures { IfOk result (λ v. v.items ≡ objects (graph txn.now) p.now s) }
-{
-    read_by::<Brand>(alloc, txn, p, s, Blank::new(1))
-}
-
-// The same, on a ledger of its own for the list that is read.
-fn read_by<L: Ledger>(alloc: Global, txn: &Txn, p: &Str, s: u64, blank: Blank) -> Mem<Vec<Posting>>
-    requires name { blank.name ≡ L.name }
-    requires parts { blank.parts ≡ L.parts }
-    requires some { 0 < blank.parts }
-    ensures { IfOk result (λ v. v.items ≡ objects (graph txn.now) p.now s) }
-{
-    txn.objects(alloc, p.as_str(), s, &mut Steps::<L>::new(blank))
 }

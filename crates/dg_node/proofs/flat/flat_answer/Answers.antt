@@ -17,23 +17,23 @@ planned_answer-requires g c =
     record { alike = ap length c.as_slice-blocks.ensures ∙ (as_many schema ds plan.query.blocks plan.parts c.requires.plan.parts ∙ sym (ap length c.as_slice-kept.ensures)) }
 
 pub returns-clause-text : goal.returns-clause-text
-returns-clause-text g c =
+returns-clause-text g c = λ lawful.
     let schema = g.S.Snapshot.declared c.args.snap.now in
     let graph = g.S.Snapshot.graph c.args.snap.now in
     let plan = c.args.plan.now in
     let ds = definitions_in schema (places_of_query plan.query) in
     let alike : planned_answer schema graph c.as_slice-blocks.result.now c.as_slice-kept.result.now ≡ flat_answer schema graph plan.query =
     (λ j. planned_answer schema graph (c.as_slice-blocks.ensures j) (c.as_slice-kept.ensures j))
-    ∙ answers_alike schema ds graph c.requires.lawful c.meanings.ensures.filters c.meanings.ensures.roots plan.query.blocks plan.parts c.requires.plan.parts in
+    ∙ answers_alike schema ds graph lawful c.meanings.ensures.filters c.meanings.ensures.roots plan.query.blocks plan.parts c.requires.plan.parts in
     subst (λ (fields : List Field). IfOk c.planned_answer.result (λ text. string_bytes text ≡ answer_text fields)) alike c.planned_answer.ensures.text
 
 pub returns-clause-too_large : goal.returns-clause-too_large
-returns-clause-too_large g c = λ e.
+returns-clause-too_large g c = λ lawful e.
     let schema = g.S.Snapshot.declared c.args.snap.now in
     let graph = g.S.Snapshot.graph c.args.snap.now in
     let plan = c.args.plan.now in
     let ds = definitions_in schema (places_of_query plan.query) in
     let alike : planned_answer schema graph c.as_slice-blocks.result.now c.as_slice-kept.result.now ≡ flat_answer schema graph plan.query =
     (λ j. planned_answer schema graph (c.as_slice-blocks.ensures j) (c.as_slice-kept.ensures j))
-    ∙ answers_alike schema ds graph c.requires.lawful c.meanings.ensures.filters c.meanings.ensures.roots plan.query.blocks plan.parts c.requires.plan.parts in
+    ∙ answers_alike schema ds graph lawful c.meanings.ensures.filters c.meanings.ensures.roots plan.query.blocks plan.parts c.requires.plan.parts in
     subst (λ (fields : List Field). 16777216 < length (answer_text fields)) alike (c.planned_answer.ensures.too_large e)

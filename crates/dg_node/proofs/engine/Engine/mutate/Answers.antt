@@ -1,80 +1,66 @@
-use Rattle.std.proofs.Common.{◌≡◌, List, Ok, Err, Some, refl, ap, sym, subst, ◌∙◌}
-use Rattle.std.specs.Prelude.{◌==◌, position, Result, IsSomeAnd}
-use Rattle.dg_schema.specs.declared.definition.PredDef.{PredDef}
+use Rattle.std.proofs.Common.{◌≡◌, set, ap, sym, subst}
+use Rattle.std.specs.Prelude.{IfOk, OnErr}
 use Rattle.dg_wire.specs.declared.reply.Reply.{Reply}
-use Rattle.dg_edges.specs.declared.edge.Edge.{Edge}
-use Rattle.dg_edges.specs.declared.fault.EdgeFault.{EdgeFault}
-use Rattle.dg_edges.specs.declared.fault.EdgeFault.TheVariants as faults
-use Rattle.dg_edges.specs.Resolving.{Resolves}
-use Rattle.dg_node.specs.declared.engine.Opened.{Opened}
-use Rattle.dg_node.specs.Kept.{Held}
-use Rattle.dg_node.specs.Machine.{Machine, session_of}
-use Rattle.dg_node.specs.Mutations.{added, MutatesBy}
-use Rattle.dg_node.proofs.Standing.{Stands, StandFor}
-use Rattle.dg_node.proofs.OneAmong.{around, it_is}
-use Rattle.dg_node.proofs.LeadLemmas.{ok_led}
-use Rattle.dg_node.proofs.MutationLemmas.{of_session, by_checked, unless_memory}
-use Rattle.dg_node.proofs.Leading.{from_all, legal_by}
+use Rattle.dg_node.specs.declared.engine.Slot.{Slot}
+use Rattle.dg_node.specs.Held.{Held}
+use Rattle.dg_node.specs.Machine.{Machine}
+use Rattle.dg_node.specs.State.{Leads}
+use Rattle.dg_node.proofs.OneAmong.{it_is}
+use Rattle.dg_node.proofs.Slots.{held_by, slot_of}
+use Rattle.dg_wire.specs.declared.request.Request.TheVariants as requests
+use Rattle.dg_node.specs.Mutations.{Mutates, MutatesIn}
+use Rattle.dg_node.specs.Steps.{Spares}
+use Rattle.dg_node.proofs.Tabled.{none_at, some_at, missing_leads, session_there, stayed_kept_by, stayed_leads_by, stayed_spares_by}
 use Rattle.dg_node.proofs.engine.Engine.mutate.Goals as goal
 
-pub returns-in-Ok-clause-ok : goal.returns-in-Ok-clause-ok
-returns-in-Ok-clause-ok c =
+pub returns-in_default-clause-ok : goal.returns-in_default-clause-ok
+returns-in_default-clause-ok c =
     let z = c.self.inside.cluster in
-    let os = c.self.inside.sessions.items in
+    let slots = c.self.inside.slots.items in
     let sid = c.args.sid in
-    let statements = c.args.mutation.statements in
-    let there : position (λ (o : Opened). o.sid == sid) os ≡ Some c.args.place = subst (λ (h : Held). position (λ (o : Opened). o.sid == sid) h.opened ≡ Some c.args.place) (sym c.self.view_is) c.requires.at in
-    let a = around (λ (o : Opened). o.sid) sid os c.args.place there in
-    let it : c.index.result.now ≡ a.it = it_is (λ (o : Opened). o.sid) sid os c.args.place a c.index.result.now c.index.ensures in
-    let declared : c.schema.result.now ≡ a.it.txn.schema = c.schema.ensures ∙ ap (λ (o : Opened). o.txn.schema) it in
-    let resolves : Resolves a.it.txn.schema statements (Ok c.in-Ok.resolved) = subst (λ (ds : List PredDef). Resolves ds statements (Ok c.in-Ok.resolved)) declared (unless_memory (Resolves c.schema.result.now statements) c.resolve.result (Ok c.in-Ok.resolved) c.in-Ok.is c.resolve.ensures) in
-    ok_led c.add.result c.args.self.now c.add.new.self (legal_by c.self.view_is c.self.invariant.legal) (λ (p : Reply) (m n : Machine). IsSomeAnd (session_of m sid) (λ s. added m s c.in-Ok.resolved ≡ (p, n))) (λ (p : Reply) (m n : Machine). IsSomeAnd (session_of m sid) (λ s. MutatesBy m s statements p n))
-    (λ p m n stood i.
-    let here : StandFor z os m = subst (λ (h : Held). Stands h m) (sym c.self.view_is) stood in
-    by_checked z os c.self.invariant sid c.args.place a m here statements (Ok c.in-Ok.resolved) p n resolves (of_session z os c.self.invariant sid c.args.place a m here (λ s. added m s c.in-Ok.resolved ≡ (p, n)) i))
-    c.add.ensures.ok
+    let none = none_at slots c.as_slice.result.now sid c.place_of.result c.as_slice.ensures.value c.place_of.ensures.place c.in_default.is in
+    subst (λ (h : Held). Leads h (λ (m n : Machine). Mutates m sid c.args.body.now c.no_session.result n) h) c.self.view_is
+    (missing_leads z slots sid c.self.invariant none (λ (m n : Machine). Mutates m sid c.args.body.now c.no_session.result n)
+    (λ m e. subst (λ o. MutatesIn m sid o c.args.body.now c.no_session.result m) (sym e) (ap (λ (p : Reply). (p, m)) (sym c.no_session.ensures))))
 
-pub returns-in-Err-NoPredicate-clause-ok : goal.returns-in-Err-NoPredicate-clause-ok
-returns-in-Err-NoPredicate-clause-ok c = rw c.in-Err-NoPredicate.field-0-is (from_all (legal_by c.self.view_is c.self.invariant.legal) (λ m s.
+pub mutate-requires-clause-session : goal.mutate-requires-clause-session
+mutate-requires-clause-session c =
     let z = c.self.inside.cluster in
-    let os = c.self.inside.sessions.items in
+    let slots = c.self.inside.slots.items in
     let sid = c.args.sid in
-    let statements = c.args.mutation.statements in
-    let fault : Result (List Edge) EdgeFault = Err (faults.NoPredicate c.in-Err-NoPredicate.pred) in
-    let there : position (λ (o : Opened). o.sid == sid) os ≡ Some c.args.place = subst (λ (h : Held). position (λ (o : Opened). o.sid == sid) h.opened ≡ Some c.args.place) (sym c.self.view_is) c.requires.at in
-    let a = around (λ (o : Opened). o.sid) sid os c.args.place there in
-    let it : c.index.result.now ≡ a.it = it_is (λ (o : Opened). o.sid) sid os c.args.place a c.index.result.now c.index.ensures in
-    let declared : c.schema.result.now ≡ a.it.txn.schema = c.schema.ensures ∙ ap (λ (o : Opened). o.txn.schema) it in
-    let resolves : Resolves a.it.txn.schema statements fault = subst (λ (ds : List PredDef). Resolves ds statements fault) declared (unless_memory (Resolves c.schema.result.now statements) c.resolve.result fault (c.in-Err-NoPredicate.is ∙ ap Err c.in-Err-NoPredicate.field-0-is) c.resolve.ensures) in
-    let here : StandFor z os m = subst (λ (h : Held). Stands h m) (sym c.self.view_is) s in
-    (m, by_checked z os c.self.invariant sid c.args.place a m here statements fault _ m resolves refl, s)))
+    let a = some_at slots c.as_slice.result.now sid c.place_of.result c.in-Some.place c.as_slice.ensures.value c.place_of.ensures.place c.in-Some.is in
+    let d = c.index_mut.result.now in
+    let it : d ≡ a.it = it_is (λ (s : Slot). s.sid) sid slots c.in-Some.place a d c.index_mut.ensures.value in
+    session_there z slots sid c.in-Some.place c.self.invariant a d it
 
-pub returns-in-Err-WrongObject-clause-ok : goal.returns-in-Err-WrongObject-clause-ok
-returns-in-Err-WrongObject-clause-ok c = rw c.in-Err-WrongObject.field-0-is (from_all (legal_by c.self.view_is c.self.invariant.legal) (λ m s.
+pub invariant_of-self : goal.invariant_of-self
+invariant_of-self c =
     let z = c.self.inside.cluster in
-    let os = c.self.inside.sessions.items in
+    let slots = c.self.inside.slots.items in
     let sid = c.args.sid in
-    let statements = c.args.mutation.statements in
-    let fault : Result (List Edge) EdgeFault = Err (faults.WrongObject c.in-Err-WrongObject.pred) in
-    let there : position (λ (o : Opened). o.sid == sid) os ≡ Some c.args.place = subst (λ (h : Held). position (λ (o : Opened). o.sid == sid) h.opened ≡ Some c.args.place) (sym c.self.view_is) c.requires.at in
-    let a = around (λ (o : Opened). o.sid) sid os c.args.place there in
-    let it : c.index.result.now ≡ a.it = it_is (λ (o : Opened). o.sid) sid os c.args.place a c.index.result.now c.index.ensures in
-    let declared : c.schema.result.now ≡ a.it.txn.schema = c.schema.ensures ∙ ap (λ (o : Opened). o.txn.schema) it in
-    let resolves : Resolves a.it.txn.schema statements fault = subst (λ (ds : List PredDef). Resolves ds statements fault) declared (unless_memory (Resolves c.schema.result.now statements) c.resolve.result fault (c.in-Err-WrongObject.is ∙ ap Err c.in-Err-WrongObject.field-0-is) c.resolve.ensures) in
-    let here : StandFor z os m = subst (λ (h : Held). Stands h m) (sym c.self.view_is) s in
-    (m, by_checked z os c.self.invariant sid c.args.place a m here statements fault _ m resolves refl, s)))
+    let a = some_at slots c.as_slice.result.now sid c.place_of.result c.in-Some.place c.as_slice.ensures.value c.place_of.ensures.place c.in-Some.is in
+    let d = c.index_mut.result.now in
+    let it : d ≡ a.it = it_is (λ (s : Slot). s.sid) sid slots c.in-Some.place a d c.index_mut.ensures.value in
+    stayed_kept_by z slots sid c.in-Some.place c.self.invariant a d it c.mutate.new.cluster c.mutate.new.session (λ (p : Reply) (m n : Machine). Mutates m c.args.sid c.args.body.now p n) (λ (m n : Machine). Spares (requests.Mutate c.args.sid c.args.body.now) m n) c.mutate.ensures.stays c.mutate.result c.mutate.ensures.ok c.mutate.ensures.err c.mutate.ensures.legal c.mutate.ensures.session
 
-pub returns-in-Err-BadLiteral-clause-ok : goal.returns-in-Err-BadLiteral-clause-ok
-returns-in-Err-BadLiteral-clause-ok c = rw c.in-Err-BadLiteral.field-0-is (from_all (legal_by c.self.view_is c.self.invariant.legal) (λ m s.
+pub returns-clause-ok : goal.returns-clause-ok
+returns-clause-ok c =
     let z = c.self.inside.cluster in
-    let os = c.self.inside.sessions.items in
+    let slots = c.self.inside.slots.items in
     let sid = c.args.sid in
-    let statements = c.args.mutation.statements in
-    let fault : Result (List Edge) EdgeFault = Err (faults.BadLiteral c.in-Err-BadLiteral.pred) in
-    let there : position (λ (o : Opened). o.sid == sid) os ≡ Some c.args.place = subst (λ (h : Held). position (λ (o : Opened). o.sid == sid) h.opened ≡ Some c.args.place) (sym c.self.view_is) c.requires.at in
-    let a = around (λ (o : Opened). o.sid) sid os c.args.place there in
-    let it : c.index.result.now ≡ a.it = it_is (λ (o : Opened). o.sid) sid os c.args.place a c.index.result.now c.index.ensures in
-    let declared : c.schema.result.now ≡ a.it.txn.schema = c.schema.ensures ∙ ap (λ (o : Opened). o.txn.schema) it in
-    let resolves : Resolves a.it.txn.schema statements fault = subst (λ (ds : List PredDef). Resolves ds statements fault) declared (unless_memory (Resolves c.schema.result.now statements) c.resolve.result fault (c.in-Err-BadLiteral.is ∙ ap Err c.in-Err-BadLiteral.field-0-is) c.resolve.ensures) in
-    let here : StandFor z os m = subst (λ (h : Held). Stands h m) (sym c.self.view_is) s in
-    (m, by_checked z os c.self.invariant sid c.args.place a m here statements fault _ m resolves refl, s)))
+    let a = some_at slots c.as_slice.result.now sid c.place_of.result c.in-Some.place c.as_slice.ensures.value c.place_of.ensures.place c.in-Some.is in
+    let d = c.index_mut.result.now in
+    let it : d ≡ a.it = it_is (λ (s : Slot). s.sid) sid slots c.in-Some.place a d c.index_mut.ensures.value in
+    subst (λ (h : Held). IfOk c.mutate.result (λ (p : Reply). Leads h (λ (m n : Machine). Mutates m sid c.args.body.now p n) (held_by c.mutate.new.cluster (set slots c.in-Some.place (slot_of d.sid c.mutate.new.session))))) c.self.view_is
+    (stayed_leads_by z slots sid c.in-Some.place c.self.invariant a d it c.mutate.new.cluster c.mutate.new.session (λ (p : Reply) (m n : Machine). Mutates m c.args.sid c.args.body.now p n) (λ (m n : Machine). Spares (requests.Mutate c.args.sid c.args.body.now) m n) c.mutate.ensures.stays c.mutate.result c.mutate.ensures.ok c.at_rest.ensures.rest)
+
+pub returns-clause-err : goal.returns-clause-err
+returns-clause-err c =
+    let z = c.self.inside.cluster in
+    let slots = c.self.inside.slots.items in
+    let sid = c.args.sid in
+    let a = some_at slots c.as_slice.result.now sid c.place_of.result c.in-Some.place c.as_slice.ensures.value c.place_of.ensures.place c.in-Some.is in
+    let d = c.index_mut.result.now in
+    let it : d ≡ a.it = it_is (λ (s : Slot). s.sid) sid slots c.in-Some.place a d c.index_mut.ensures.value in
+    subst (λ (h : Held). OnErr c.mutate.result (Leads h (λ (m n : Machine). Spares (requests.Mutate c.args.sid c.args.body.now) m n) (held_by c.mutate.new.cluster (set slots c.in-Some.place (slot_of d.sid c.mutate.new.session))))) c.self.view_is
+    (stayed_spares_by z slots sid c.in-Some.place c.self.invariant a d it c.mutate.new.cluster c.mutate.new.session (λ (p : Reply) (m n : Machine). Mutates m c.args.sid c.args.body.now p n) (λ (m n : Machine). Spares (requests.Mutate c.args.sid c.args.body.now) m n) c.mutate.ensures.stays c.mutate.result c.mutate.ensures.err c.at_rest.ensures.rest)

@@ -1,5 +1,4 @@
-use Rattle.std.proofs.Common.{true, [], Ok, Err, subst, sym}
-use Rattle.dg_txn.specs.Pins.{ArePinsOf}
+use Rattle.std.proofs.Common.{true, subst, sym}
 use Rattle.dg_zero.specs.Counters.{next}
 use Rattle.dg_zero.specs.States.{Zero}
 use Rattle.dg_node.specs.declared.cluster.ClusterFault.{ClusterFault}

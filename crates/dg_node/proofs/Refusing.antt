@@ -1,0 +1,119 @@
+-- Lists of refused patterns: what is found where there is none, and where a list grows.
+use Rattle.std.proofs.Common.{◌≡◌, ℕ, inl, inr, Bool, true, false, List, [], ◌∷◌, ◌++◌, Option, Some, None, refl, ap, sym, subst, ◌∙◌}
+use Rattle.std.specs.Prelude.{◌==◌, ◌&&◌, ◌||◌, Result, Ok, Err, length}
+use Rattle.std.specs.Ordering.{bool_cmp, is_eq}
+use Rattle.std.specs.Str.Lossy.{utf8_valid_len}
+use Rattle.dg_values.specs.Order.{same_text}
+use Rattle.dg_schema.specs.declared.definition.PredDef.{PredDef}
+use Rattle.dg_graph.specs.declared.change.Triple.{Triple}
+use Rattle.dg_parse.specs.declared.fault.DqlFault.{DqlFault}
+use Rattle.dg_parse.specs.declared.fault.DqlFault.TheVariants as texts
+use Rattle.dg_parse.specs.declared.query.Query.{Query}
+use Rattle.dg_parse.specs.Whole.{query_of}
+use Rattle.dg_check.specs.declared.fault.CheckFault.{CheckFault}
+use Rattle.dg_check.specs.declared.patterns.Refusal.{Refusal as BadPattern}
+use Rattle.dg_check.specs.Faults.{fault_of}
+use Rattle.dg_check.specs.Outcomes.{IsQueryOutcome}
+use Rattle.dg_check.specs.Patterns.{is_refused, IsFrontOf}
+use Rattle.dg_wire.specs.declared.reply.Reply.{Reply}
+use Rattle.dg_wire.specs.declared.request.Request.{Request}
+use Rattle.dg_wire.specs.declared.request.Request.TheVariants as requests
+use Rattle.dg_node.specs.Graphs.{graph_at}
+use Rattle.dg_node.specs.Schemas.{schema_at}
+use Rattle.dg_node.specs.Machine.{Machine, Session, session_of}
+use Rattle.dg_node.specs.Flat.{is_flat}
+use Rattle.dg_node.specs.Queries.{IsFound, QueriesBy, QueriesForm, QueriesAs, QueriesText, QueriesIn, Queries}
+use Rattle.dg_node.specs.Steps.{Outcome, Step, Steps}
+
+-- ---- no pattern was refused
+
+-- the fault is that of the query alone
+pub fault_there : (schema : List PredDef) (query : Query) (fault : CheckFault) → IsFound schema [] query (Some fault) → fault_of schema query ≡ Some fault
+fault_there schema query fault (inl whole) = whole
+fault_there schema query fault (inr (before, pattern)) = let no = pattern.refused.listed in absurd (cc)
+
+-- there isn't one and none
+pub none_found : (schema : List PredDef) (query : Query) (fault : CheckFault) → IsFound schema [] query None → IsFound schema [] query (Some fault) → ⊥
+none_found schema query fault none some = by (fault_of schema query) none (fault_there schema query fault some)
+  where
+    by : (found : Option CheckFault) → found ≡ None → found ≡ Some fault → ⊥
+    by found e f = absurd (cc)
+
+-- ---- the list grows
+
+or_more : (b c d : Bool) → (c ≡ true → d ≡ true) → (b || c) ≡ true → (b || d) ≡ true
+or_more true c d f e = refl
+or_more false c d f e = f e
+
+still_refused : (list more : List BadPattern) (text : List ℕ) (fold : Bool) → is_refused list text fold ≡ true → is_refused (list ++ more) text fold ≡ true
+still_refused [] more text fold e = absurd (cc)
+still_refused (r ∷ list) more text fold e =
+    or_more (same_text text r.text && is_eq (bool_cmp fold r.fold)) (is_refused list text fold) (is_refused (list ++ more) text fold) (still_refused list more text fold) e
+
+module _ (list more : List BadPattern) where
+  pub found_more : (schema : List PredDef) (query : Query) (fault : Option CheckFault) → IsFound schema list query fault → IsFound schema (list ++ more) query fault
+  found_more schema query None f = f
+  found_more schema query (Some fault) (inl whole) = inl whole
+  found_more schema query (Some fault) (inr (before, p)) = inr (
+    before,
+    record {
+      before = p.before;
+      place = p.place;
+      after = p.after;
+      stands = p.stands;
+      refused = record {
+        pred = p.refused.pred;
+        pattern = p.refused.pattern;
+        fold = p.refused.fold;
+        sought = p.refused.sought;
+        listed = still_refused list more p.refused.pattern p.refused.fold p.refused.listed;
+        is = p.refused.is;
+      };
+      clean = p.clean;
+      read = p.read;
+      are_read = p.are_read;
+    },
+  )
+
+  module _ (old : Machine) (sid : ℕ) (schema : List PredDef) (graph : List Triple) where
+    form_more : (query : Query) (flat : Bool) (p : Reply) (new : Machine) → QueriesForm list old sid schema graph query flat p new → QueriesForm (list ++ more) old sid schema graph query flat p new
+    form_more query true p new q = record { fault = q.fault; found = found_more schema query q.fault q.found; outcome = q.outcome }
+    form_more query false p new q = q
+
+    as_more : (read : Result Query DqlFault) (p : Reply) (new : Machine) → QueriesAs list old sid schema graph read p new → QueriesAs (list ++ more) old sid schema graph read p new
+    as_more (Ok query) p new q = form_more query (is_flat query) p new q
+    as_more (Err (texts.BadToken offset)) p new q = q
+    as_more (Err (texts.TooDeep offset)) p new q = q
+    as_more (Err (texts.BadSyntax offset)) p new q = q
+    as_more (Err texts.OutOfMemory) p new q = absurd q
+
+    text_more : (body : List ℕ) (whole : Bool) (p : Reply) (new : Machine) → QueriesText list old sid schema graph body whole p new → QueriesText (list ++ more) old sid schema graph body whole p new
+    text_more body true p new q = as_more (query_of body) p new q
+    text_more body false p new q = q
+
+  queries_more : (old : Machine) (sid : ℕ) (body : List ℕ) (found : Option Session) (p : Reply) (new : Machine) → QueriesIn list old sid found body p new → QueriesIn (list ++ more) old sid found body p new
+  queries_more old sid body (Some session) p new q = text_more old sid (schema_at old.alters session.start) (graph_at old.alters old.commits session.start session.own) body (utf8_valid_len body == length body) p new q
+  queries_more old sid body None p new q = q
+
+  outcome_more : (old : Machine) (request : Request) (p : Reply) (new : Machine) → Outcome list old request p new → Outcome (list ++ more) old request p new
+  outcome_more old (requests.Alter body) p new o = o
+  outcome_more old (requests.Begin sid) p new o = o
+  outcome_more old (requests.Mutate sid body) p new o = o
+  outcome_more old (requests.Query sid body) p new o = queries_more old sid body (session_of old sid) p new o
+  outcome_more old (requests.Commit sid) p new o = o
+  outcome_more old (requests.Discard sid) p new o = o
+  outcome_more old request p new o = o
+
+  step_more : (old : Machine) (request : Request) (p : Reply) (new : Machine) → Step list old request p new → Step (list ++ more) old request p new
+  step_more old request p new (inl o) = inl (outcome_more old request p new o)
+  step_more old request p new (inr w) = inr w
+
+  steps_more : (old : Machine) (rs : List Request) (ps : List Reply) (new : Machine) → Steps list old rs ps new → Steps (list ++ more) old rs ps new
+  steps_more old [] [] new s = s
+  steps_more old [] (p ∷ ps) new s = absurd s
+  steps_more old (r ∷ rs) [] new s = absurd s
+  steps_more old (r ∷ rs) (p ∷ ps) new s = (s.0, step_more old r p s.0 s.1, steps_more s.0 rs ps new s.2)
+
+-- the same replies may come where more patterns were refused in the end
+pub steps_grown : (list after : List BadPattern) (old : Machine) (rs : List Request) (ps : List Reply) (new : Machine) → IsFrontOf list after → Steps list old rs ps new → Steps after old rs ps new
+steps_grown list after old rs ps new (more, e) s = subst (λ (l : List BadPattern). Steps l old rs ps new) (sym e) (steps_more list more old rs ps new s)

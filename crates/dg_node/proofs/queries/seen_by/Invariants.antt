@@ -1,4 +1,0 @@
-use Rattle.dg_node.proofs.queries.seen_by.Given as goal
-
-abbrev pub ghosts-read_by : goal.ghosts-read_by
-ghosts-read_by a = record { name = a.blank.name; parts = a.blank.parts }
