@@ -120,13 +120,7 @@ fn refused_check(fault: CheckFault) -> Mem<Reply>
 }
 
 // The answer of a checked query, on a ledger of its own for the lists that are read.
-fn answer<L: Ledger>(
-    alloc: Global,
-    txn: &Txn,
-    sid: u32,
-    plan: &Plan,
-    blank: Blank,
-) -> Mem<Reply>
+fn answer<L: Ledger>(alloc: Global, txn: &Txn, sid: u32, plan: &Plan, blank: Blank) -> Mem<Reply>
     requires name { blank.name ≡ L.name }
     requires parts { blank.parts ≡ L.parts }
     requires some { 0 < blank.parts }
