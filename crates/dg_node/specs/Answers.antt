@@ -1,5 +1,5 @@
 -- What is shown of a predicate of a node.
-use Rattle.std.specs.Prelude.{Bool, true, false, Option, Some, None, ℕ, List, [], ◌∷◌, map, flat_map, codes}
+use Rattle.std.specs.Prelude.{Bool, true, false, Option, Some, None, List, [], ◌∷◌, map, flat_map}
 use Rattle.dg_values.specs.declared.value.Value.{Value}
 use Rattle.dg_values.specs.declared.value.Value.TheVariants as values
 use Rattle.dg_values.specs.declared.value.Posting.{Posting}
@@ -8,7 +8,6 @@ use Rattle.dg_values.specs.Printing.{time_text}
 use Rattle.dg_schema.specs.declared.definition.PredDef.{PredDef}
 use Rattle.dg_tree.specs.declared.tree.Tree.{Tree}
 use Rattle.dg_tree.specs.declared.tree.Tree.TheVariants as trees
-use Rattle.dg_tree.specs.declared.tree.Field.{Field}
 
 -- a number as a number, a truth as a truth, a text as a text; a moment is shown as its text
 abbrev pub value_tree : Value → Tree
@@ -32,11 +31,3 @@ values_shown false (value ∷ values) = value_tree value ∷ []
 abbrev pub shown : Option PredDef → List Posting → List Tree
 shown None objects = []
 shown (Some def) objects = values_shown def.list (flat_map value_of objects)
-
--- a node with one field, which is left out where nothing of it is shown
-abbrev pub node_trees : List ℕ → List Tree → List Tree
-node_trees name shown = map (λ tree. trees.Node ((record { key = name; tree = tree }) ∷ [])) shown
-
--- the one block of an answer, with what is shown of a node
-abbrev pub block_of : List ℕ → List Tree → List Field
-block_of name shown = (record { key = codes "q"; tree = trees.Array (node_trees name shown) }) ∷ []

@@ -1,10 +1,10 @@
 // What is shown of a predicate of a node.
-ghost use Rattle.std.specs.Prelude.{◌≡◌, ◌∷◌, [], IfOk, map, flat_map, option_copied, option_to_list};
+ghost use Rattle.std.specs.Prelude.{◌≡◌, IfOk, map, flat_map, option_copied, option_to_list};
 ghost use Rattle.dg_values.specs.Printing.{time_text};
-ghost use Rattle.dg_node.specs.Answers.{value_tree, value_of, values_shown, shown, node_trees, block_of};
+ghost use Rattle.dg_node.specs.Answers.{value_tree, value_of, values_shown, shown};
 
 use dg_schema::PredDef;
-use dg_tree::{Field, Tree};
+use dg_tree::Tree;
 use dg_values::{List, Mem, Moment, OutOfMemory, Posting, Str, Value, write_value};
 use std::alloc::Global;
 
@@ -78,48 +78,4 @@ pub fn shown(
         None => Ok(None),
         Some(definition) => values_shown(alloc, definition.list, values_of(alloc, objects)?),
     }
-}
-
-// A node with one field.
-fn node_of(alloc: Global, key: Str, tree: Tree) -> Mem<Tree>
-    ensures { IfOk result (λ node. node_trees key (tree ∷ []) ≡ node ∷ []) }
-{
-    let mut fields = List::new(alloc);
-    fields.push(Field { key, tree })?;
-    Ok(Tree::Node(fields))
-}
-
-// The nodes of an answer: one with one field, unless nothing is shown there.
-fn nodes_of(alloc: Global, name: Str, shown: Option<Tree>) -> Mem<List<Tree>>
-    ensures { IfOk result (λ nodes. nodes ≡ node_trees name (option_to_list shown)) }
-{
-    let mut nodes = List::new(alloc);
-    if let Some(tree) = shown {
-        nodes.push(node_of(alloc, name, tree)?)?;
-    }
-    Ok(nodes)
-}
-
-/// The one block of an answer, `q`: a node with what is shown of the objects of a predicate, under that name, unless
-/// nothing is. The error is want of memory.
-///
-/// Values of a list are shown as an array in their order, and a single value by itself. Nothing is shown of a predicate
-/// that isn't declared, nor of objects that are nodes.
-pub fn block_of(
-    alloc: Global,
-    name: Str,
-    definition: Option<&PredDef>,
-    objects: Vec<Posting>,
-) -> Mem<Vec<Field>>
-    ensures { IfOk result (λ fields. fields.items ≡ block_of name (shown (option_copied definition.entry) objects.items)) }
-{
-    let tree = shown(alloc, definition, objects)?;
-    let nodes = nodes_of(alloc, name, tree)?;
-    let key = Str::from_str(alloc, "q")?;
-    let mut fields = Vec::new(alloc);
-    fields.push(Field {
-        key,
-        tree: Tree::Array(nodes),
-    })?;
-    Ok(fields)
 }
