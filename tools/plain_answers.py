@@ -65,7 +65,7 @@ def is_built(block: Block) -> bool:
     if not all(is_plain(function) for function in (block.function, *tested_in(block))):
         return False
     for variable, _, item in block.fields:
-        is_bare = isinstance(item, Followed) and not item.edge.back and item[1:] == (None, [], None)
+        is_bare = isinstance(item, Followed) and not item.edge.back and (item.arguments or [], *item[2:]) == ([], [], None)
         if variable or not (is_bare or isinstance(item, Uid)):
             return False
     return True
