@@ -109,11 +109,13 @@ class Answers(unittest.TestCase):
         self.assertEqual(plain.run(b"query 1 1\n!\n").replies, [b"error 1 NoSession 1\n"])
 
     def test_forms_that_arent_built(self) -> None:
-        for form in ("{ name() }", "{ name {} }", "{ ~friend }", "{ count(friend) }", "{ count(uid) }", "{ x as age }",
+        for form in ("{ name {} }", "{ ~friend }", "{ count(friend) }", "{ count(uid) }", "{ x as age }",
                      "{ val(x) }", "@cascade { name }", "@filter(uid(x)) { uid }", "@filter(uid_in(boss, x)) { uid }"):
             self.assertEqual(self.reply(f"{{ q(func: has(name)) {form} }}"), "error 98 Unbuilt", form)
         for query in ("{ q() {} }", "{ x as q(func: has(name)) {} }", "{ q(func: has(name), first: 1) {} }"):
             self.assertEqual(self.reply(query), "error 98 Unbuilt", query)
+        by_itself = self.reply("{ q(func: has(name)) { name } }")
+        self.assertEqual(self.reply("{ q(func: has(name)) { name() } }"), by_itself)
 
     def test_very_long_numbers(self) -> None:
         zeros = "0" * 10_000
