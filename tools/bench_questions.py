@@ -15,19 +15,18 @@ from bench_steps import (
 @dataclass(frozen=True)
 class Question:
     """What is asked over and over in one transaction: what is declared and stored first, by the number of nodes; one
-    question, drawn at random; about how many nodes or places of lists have to be looked at for it; and which index
-    SQLite has for it."""
+    question, drawn at random; about how many microseconds it takes; and which index SQLite has for it."""
 
     name: str
     schema: str
     stored: Callable[[int], Iterator[Triple]]
     drawn: Callable[[int, random.Random], Asked]
-    looks: Callable[[int], int]
+    takes: Callable[[int], int]
     index: str = ""
 
     def times(self, size: int) -> int:
-        """How often it is asked: so that the queries together take about as long as the load."""
-        return max(4, 4 * max(size, 10_000) // (3 + self.looks(size)))
+        """How often it is asked: so that the queries together take about as long as a load under an index."""
+        return max(4, 15 * max(size, 10_000) // self.takes(size))
 
     def questions(self, size: int) -> Iterator[Asked]:
         """What is asked, without an end."""
@@ -104,9 +103,9 @@ def with_both(words: list[str]) -> Asked:
     )
 
 
-def listed(terms: int, size: int) -> int:
-    """How many nodes so many terms list, of three for each node."""
-    return terms * 3 * size // len(WORDS)
+def read_of(terms: int, size: int) -> int:
+    """About how many microseconds it takes to read the nodes that so many terms list, of three terms for each node."""
+    return 10 + terms * 3 * size // len(WORDS) // 2
 
 
 HOLDERS = Asked("has(name)", "select distinct s from triple where p = ? order by s", ("name",))
@@ -118,14 +117,14 @@ QUESTIONS = [
         NAME,
         names,
         lambda size, draw: name_of(draw.randrange(1, size + 1)),
-        lambda size: 1,
+        lambda size: 10,
     ),
     Question(
         "query: eq, one node",
         EXACT,
         lambda size: names(size, size),
         lambda size, draw: named(draw.randrange(size)),
-        lambda size: 1,
+        lambda size: 10,
         "exact",
     ),
     Question(
@@ -133,7 +132,7 @@ QUESTIONS = [
         EXACT,
         lambda size: names(size, 10),
         lambda size, draw: named(draw.randrange(10)),
-        lambda size: size // 10,
+        lambda size: 10 + size // 25,
         "exact",
     ),
     Question(
@@ -141,7 +140,7 @@ QUESTIONS = [
         RANK,
         ranks,
         lambda size, draw: between(100, size, draw),
-        lambda size: 100,
+        lambda size: 300,
         "int",
     ),
     Question(
@@ -149,7 +148,7 @@ QUESTIONS = [
         RANK,
         ranks,
         lambda size, draw: from_on(max(1, size - 99)),
-        lambda size: size,
+        lambda size: 10 + size * 3 // 2,
         "int",
     ),
     *(
@@ -158,7 +157,7 @@ QUESTIONS = [
             TERM,
             texts,
             lambda size, draw, many=many: with_any(draw.sample(WORDS, many)),  # type: ignore[misc]
-            lambda size, many=many: listed(many, size),  # type: ignore[misc]
+            lambda size, many=many: read_of(many, size),  # type: ignore[misc]
             "term",
         )
         for many in (1, 4)
@@ -168,16 +167,16 @@ QUESTIONS = [
         TERM,
         texts,
         lambda size, draw: with_both(draw.sample(WORDS, 2)),
-        lambda size: listed(2, size),
+        lambda size: read_of(2, size),
         "term",
     ),
-    Question("query: has, all nodes", NAME, names, lambda size, draw: HOLDERS, lambda size: size),
+    Question("query: has, all nodes", NAME, names, lambda size, draw: HOLDERS, lambda size: 10 + size * 3 // 2),
     Question(
         "query: filter of two functions, 1,000 nodes",
         NAME + RANK,
         lambda size: chain(names(size, 10), ranks(size)),
         half_of_thousand,
-        lambda size: 3_000,
+        lambda size: 4_000,
         "int",
     ),
 ]

@@ -166,8 +166,9 @@ class Tables(InFolder):
 
     def test_figures_of_one_query(self) -> None:
         question = next(it for it in bench.QUESTIONS if it.name.startswith("query: has"))
-        side = bench.each(question, lambda work, size: bench.Figures(8.0, 6, 1.0, 40))
-        self.assertEqual(side(question.workload(), 100_000), bench.Figures(2.0, 6, 1.0, 40))
+        times = question.times(100_000)
+        side = bench.each(question, lambda work, size: bench.Figures(2.0 * times, times + 2, 1.0, 40))
+        self.assertEqual(side(question.workload(), 100_000), bench.Figures(2.0, times + 2, 1.0, 40))
 
     def test_answers_of_another_length(self) -> None:
         sides = [lambda work, size, long=long: bench.Figures(1.0, 1, 1.0, long) for long in (40, 41)]
