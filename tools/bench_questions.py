@@ -26,7 +26,7 @@ class Question:
 
     def times(self, size: int) -> int:
         """How often it is asked: so that the queries together take about as long as a load under an index."""
-        return max(4, 15 * max(size, 10_000) // self.takes(size))
+        return max(4, 15 * max(size, 5_000) // self.takes(size))
 
     def questions(self, size: int) -> Iterator[Asked]:
         """What is asked, without an end."""
