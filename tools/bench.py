@@ -4,19 +4,24 @@
     bench.py [--program PATH] [--quick] [--sizes N,N,N] [--only WORDS,..] [--repeat N] [--plain]
 
 It prints a table: for each workload and size how many seconds of a processor the program took, how many microseconds
-a request (`begin`, `mutate`, `query`, `commit` and `discard` are one each) and a unit, its peak memory, and the exponent
-by which the time grew since the size before (1 is as the size, 2 as its square). A size is a number of units: changes of
-a load, commits that are tried, reads. `--quick` takes smaller sizes and less than a minute; `--only` takes the workloads
-whose names have one of the words; `--repeat` takes the best of so many runs; `--plain` leaves SQLite out.
+a request (`begin`, `mutate`, `query`, `commit` and `discard` are one each) and a unit, its peak memory, and the
+exponent by which the time grew since the size before (1 is as the size, 2 as its square). A size is a number of units:
+changes of a load, commits that are tried, reads. Behind it stands a table of questions, whose names begin with `query`:
+for each number of nodes how often a question was asked in one transaction, how many bytes an answer has, how many
+microseconds a query took, and the exponent by which that grew.
+
+`--quick` takes smaller sizes and less than a minute; `--only` takes the workloads and questions whose names have one of
+the words; `--repeat` takes the best of so many runs; `--plain` leaves SQLite out.
 
 The program reads a script from a file and writes its replies to another. The time of a run over what a workload needs
 first is taken off. Every reply is counted, and one that isn't `ok`, but for conflicts where they are meant, ends it
 with 1. Workloads with an index are left out where the program answers 98 to directives.
 
 SQLite is Python's own, in memory, in a process of its own whose peak has Python in it. It does the same work over a
-table of triples with a key by predicate and subject, an index as the workload asks for it, and a table of words by
-triple for terms. Transactions that overlap are judged by a table of when each place was written last; others are not
-judged at all. It keeps no older moment, so reads of one aren't asked of it. Times are of the statements alone.
+table of triples with a key by predicate and subject, an index by predicate and object where the workload asks for it,
+and a table of words by triple for terms. Python makes its answers the same texts, which have to be as long.
+Transactions that overlap are judged by a table of when each place was written last; others are not judged at all. It
+keeps no older moment, so reads of one aren't asked of it. Times are of the statements and answers alone.
 
 It needs Python 3.9 or later, and nothing else.
 """
@@ -37,20 +42,21 @@ import tempfile
 import time
 from collections import Counter
 from collections.abc import Callable, Iterable, Iterator
-from dataclasses import dataclass
 from itertools import chain, islice
 from pathlib import Path
-from typing import BinaryIO, NamedTuple, Optional, Union
+from typing import BinaryIO, NamedTuple, Optional
+
+from bench_questions import QUESTIONS, Question
+from bench_steps import INDEXED, LARGE, NAME, Step, Steps, Triple, Workload, name_of, names, queries, transactions
 
 PROGRAM = Path(__file__).resolve().parent.parent / "crates" / "dgraph" / "out" / "dgraph"
 SIZES = [10_000, 30_000, 100_000]
+NODES = [1_000, 10_000, 100_000]
 QUICK = [1_000, 3_000, 10_000]
 LONGEST_INPUT = 67_108_864
 # How many seconds a run may take.
 SECONDS = 600
 SESSIONS = range(1, 17)
-LARGE = 1_000
-WORDS = [front + back for front in "bdfgklmnprstvz" for back in "ab ek il om un ast erd ink".split()]
 
 
 class Wrong(Exception):
@@ -62,108 +68,22 @@ class Wrong(Exception):
 # ---------------------------------------------------------------------------------------------------
 
 
-class Triple(NamedTuple):
-    """What is set: an object that is a number is a node."""
-
-    subject: int
-    predicate: str
-    object: Union[int, str]
-
-    @property
-    def place(self) -> tuple[str, int]:
-        return self.predicate, self.subject
-
-    def text(self) -> str:
-        said = f"<{hex(self.object)}>" if isinstance(self.object, int) else f'"{self.object}"'
-        return f"<{hex(self.subject)}> <{self.predicate}> {said} ."
-
-
-class Step(NamedTuple):
-    """A request: a mutation's triples, or the node and predicate that a query asks for."""
-
-    verb: str
-    session: int
-    triples: tuple[Triple, ...] = ()
-    node: int = 0
-    predicate: str = ""
-
-    def frame(self) -> bytes:
-        if self.verb == "mutate":
-            body = "\n".join(triple.text() for triple in self.triples)
-        elif self.verb == "query":
-            body = f"{{ q(func: uid({hex(self.node)})) {{ {self.predicate} }} }}"
-        else:
-            return f"{self.verb} {self.session}\n".encode()
-        return f"{self.verb} {self.session} {len(body)}\n{body}\n".encode()
-
-
-Steps = Iterator[Step]
-
-
-def nothing(_: int) -> Steps:
-    """No data are needed first."""
-    return iter(())
-
-
-@dataclass(frozen=True)
-class Workload:
-    """What is declared, what is done first, and what is measured, by size; which index SQLite has for it; whether
-    transactions overlap, so that commits may be refused; and whether reads are of an older moment, which SQLite doesn't
-    keep in memory."""
-
-    name: str
-    schema: str
-    measured: Callable[[int], Steps]
-    before: Callable[[int], Steps] = nothing
-    index: str = ""
-    overlaps: bool = False
-    is_older: bool = False
-
-
-def transactions(triples: Iterable[Triple], each: int) -> Steps:
-    """The triples, so many in each transaction."""
-    rest = iter(triples)
-    while batch := tuple(islice(rest, each)):
-        yield Step("begin", 1)
-        yield Step("mutate", 1, batch)
-        yield Step("commit", 1)
-
-
-def names(size: int) -> Iterator[Triple]:
-    """A name for each node, of a thousand names."""
-    return (Triple(node, "name", f"name {node % 1_000}") for node in range(1, size + 1))
-
-
 def over(nodes: int, size: int) -> Iterator[Triple]:
     """New names for a few nodes, one after the other."""
     return (Triple(1 + change % nodes, "name", f"name {change}") for change in range(size))
 
 
-def texts(size: int) -> Iterator[Triple]:
-    """A text of three words for each node."""
-    draw = random.Random(size)
-    return (Triple(node, "text", " ".join(draw.sample(WORDS, 3))) for node in range(1, size + 1))
-
-
-def edges(size: int) -> Iterator[Triple]:
-    """An edge from each node to one of a hundred."""
-    draw = random.Random(size)
-    return (Triple(node, "friend", draw.randrange(1, 101)) for node in range(1, size + 1))
-
-
 def reads(size: int) -> Steps:
     """Reads of names at random, in one transaction."""
     draw = random.Random(size)
-    yield Step("begin", 1)
-    yield from (Step("query", 1, (), draw.randrange(1, size + 1), "name") for _ in range(size))
-    yield Step("discard", 1)
+    return queries(name_of(draw.randrange(1, size + 1)) for _ in range(size))
 
 
 def later_reads(size: int) -> Steps:
     """Reads of a hundred nodes, each in a transaction of its own."""
     for read in range(size):
         yield Step("begin", 1)
-        yield Step("query", 1, (), 1 + read % 100, "name")
+        yield Step("query", 1, asked=name_of(1 + read % 100))
         yield Step("discard", 1)
 
 
@@ -176,7 +96,7 @@ def history_behind_a_start(size: int) -> Steps:
 
 def older_reads(size: int) -> Steps:
     """Reads in the transaction that was left open."""
-    yield from (Step("query", 16, (), 1 + read % 100, "name") for read in range(size))
+    yield from (Step("query", 16, asked=name_of(1 + read % 100)) for read in range(size))
 
 
 def contended(size: int) -> Steps:
@@ -190,12 +110,6 @@ def contended(size: int) -> Steps:
         yield from (Step("commit", session) for session in sessions)
 
 
-NAME = "name: string .\n"
-INDEXED = {
-    "exact": ("name: string @index(exact) .\n", names),
-    "term": ("text: string @index(term) .\n", texts),
-    "reverse": ("friend: [uid] @reverse .\n", edges),
-}
 EACH = [1, 100, 10_000]
 
 
@@ -224,11 +138,13 @@ WORKLOADS = [
 
 
 class Figures(NamedTuple):
-    """How many seconds of a processor something took, for how many requests, and its peak in MiB."""
+    """How many seconds of a processor something took, for how many requests, its peak in MiB, and how many bytes the
+    answers to queries have."""
 
     seconds: float
     requests: int
     peak: float
+    answered: int = 0
 
 
 class Ending(NamedTuple):
@@ -240,10 +156,11 @@ class Ending(NamedTuple):
 
 
 class Ran(NamedTuple):
-    """A run of the program: its end, and its replies by their first two words."""
+    """A run of the program: its end, its replies by their first two words, and how many bytes its answers have."""
 
     ending: Ending
     replies: Counter[bytes]
+    answered: int
 
 
 def write_script(file: BinaryIO, schema: str, steps: Iterable[Step]) -> int:
@@ -258,10 +175,17 @@ def write_script(file: BinaryIO, schema: str, steps: Iterable[Step]) -> int:
     return requests
 
 
-def replies_of(file: BinaryIO) -> Counter[bytes]:
-    """The replies by their first two words. Bodies have no line feed."""
+def replies_of(file: BinaryIO) -> tuple[Counter[bytes], int]:
+    """The replies by their first two words, and how many bytes the answers have. Bodies have no line feed."""
     file.seek(0)
-    return Counter(b" ".join(line.split(None, 2)[:2]) for line in file if line.startswith((b"ok ", b"error ")))
+    replies: Counter[bytes] = Counter()
+    answered = 0
+    for line in file:
+        if line.startswith((b"ok ", b"error ")):
+            words = line.split()
+            replies[b" ".join(words[:2])] += 1
+            answered += int(words[-1]) if words[:2] == [b"ok", b"query"] else 0
+    return replies, answered
 
 
 def peak_so_far(pid: int) -> int:
@@ -302,11 +226,11 @@ def run(program: Path, schema: str, steps: Iterable[Step]) -> Ran:
         ending = waited(subprocess.Popen([program.absolute(), "run"], stdin=script, stdout=wrote, stderr=said))
         said.seek(0)
         words = said.read(200).decode("utf-8", "replace").strip()
-        replies = replies_of(wrote)
+        replies, answered = replies_of(wrote)
     count = sum(replies.values())
     if ending.status != 0 or count != requests:
         raise Wrong(f"the program ended with {ending.status} {words!r}, and answered {count} of {requests} requests")
-    return Ran(ending, replies)
+    return Ran(ending, replies, answered)
 
 
 def takes(program: Path, schema: str) -> bool:
@@ -317,16 +241,24 @@ def takes(program: Path, schema: str) -> bool:
     return b"ok alter" in replies
 
 
-def of_program(program: Path, work: Workload, size: int) -> Figures:
-    """What the program takes for a workload: a run with the data that are needed first, less one over those alone."""
+def whole_run(program: Path, work: Workload, size: int) -> Ran:
+    """A run over a workload and what it needs first."""
     whole = run(program, work.schema, chain(work.before(size), work.measured(size)))
     allowed = {b"error 19"} if work.overlaps else set()
     refused = [reply for reply in whole.replies if reply.startswith(b"error") and reply not in allowed]
     if refused:
         raise Wrong(f"the program answers {b', '.join(refused).decode()}")
-    first = run(program, work.schema, work.before(size))
+    return whole
+
+
+def of_program(program: Path, work: Workload, size: int, repeat: int = 1) -> Figures:
+    """What the program takes for a workload: a run with the data that are needed first, less one over those alone; of
+    each the shortest of so many."""
+    pairs = ((whole_run(program, work, size), run(program, work.schema, work.before(size))) for _ in range(repeat))
+    whole, first = (min(runs, key=lambda ran: ran.ending.seconds) for runs in zip(*pairs))
+    seconds = max(0.0, whole.ending.seconds - first.ending.seconds)
     requests = sum(whole.replies.values()) - sum(first.replies.values())
-    return Figures(max(0.0, whole.ending.seconds - first.ending.seconds), requests, whole.ending.peak)
+    return Figures(seconds, requests, whole.ending.peak, whole.answered - first.answered)
 
 
 # ---------------------------------------------------------------------------------------------------
@@ -348,8 +280,9 @@ class Sqlite:
         self.work = work
         self.base = sqlite3.connect(":memory:", isolation_level=None)
         self.base.executescript(TABLES)
-        if work.index in ("exact", "reverse"):
+        if work.index in ("exact", "int", "reverse"):
             self.base.execute(INDEX)
+        self.answered = 0
         self.clock = 0
         self.starts: dict[int, int] = {}
         self.changes: dict[int, list[Triple]] = {}
@@ -365,9 +298,11 @@ class Sqlite:
     def mutate(self, step: Step) -> None:
         self.changes[step.session] += step.triples
 
-    def query(self, step: Step) -> None:
-        found = self.base.execute("select o from triple where p = ? and s = ?", (step.predicate, step.node)).fetchall()
-        json.dumps([{step.predicate: said} for said, in found])
+    def query(self, step: Step) -> str:
+        assert step.asked
+        answer = step.asked.answer(self.base.execute(step.asked.statement, step.asked.bound))
+        self.answered += len(answer)
+        return answer
 
     def discard(self, step: Step) -> None:
         del self.starts[step.session], self.changes[step.session]
@@ -400,7 +335,7 @@ class Sqlite:
         self.base.executemany("insert or ignore into triple values (?, ?, ?)", rows)
         if self.work.index == "term":
             # No workload sets a second text for a node, whose words would have to go.
-            words = ((p, word, s) for s, p, text in triples for word in str(text).casefold().split())
+            words = ((it.predicate, word, it.subject) for it in triples for word in str(it.object).casefold().split())
             self.base.executemany("insert or ignore into word values (?, ?, ?)", words)
 
 
@@ -409,7 +344,7 @@ def in_sqlite(work: Workload, size: int) -> Figures:
     base = Sqlite(work)
     for step in work.before(size):
         base.do(step)
-    seconds, requests = 0.0, 0
+    seconds, requests, base.answered = 0.0, 0, 0
     steps = work.measured(size)
     # The requests are made in advance, some at a time, so that neither their making nor their memory counts.
     while some := list(islice(steps, 1_000)):
@@ -418,13 +353,18 @@ def in_sqlite(work: Workload, size: int) -> Figures:
             base.do(step)
         seconds += time.process_time() - began
         requests += len(some)
-    return Figures(seconds, requests, peak_so_far(os.getpid()) / 1024)
+    return Figures(seconds, requests, peak_so_far(os.getpid()) / 1024, base.answered)
 
 
-def of_sqlite(work: Workload, size: int) -> Optional[Figures]:
-    """What it takes in a process of its own; nothing where it can't do that work."""
+def of_sqlite(work: Workload, size: int, repeat: int = 1) -> Optional[Figures]:
+    """What it takes in a process of its own, the best of so many; nothing where it can't do that work."""
     if work.is_older:
         return None
+    return min((one_of_sqlite(work, size) for _ in range(repeat)), key=lambda one: one.seconds)
+
+
+def one_of_sqlite(work: Workload, size: int) -> Figures:
+    """What one such process takes."""
     words = [sys.executable, "-B", __file__, "--in-sqlite", work.name, "--sizes", str(size)]
     child = subprocess.Popen(words, stdout=subprocess.PIPE)
     assert child.stdout
@@ -437,54 +377,109 @@ def of_sqlite(work: Workload, size: int) -> Optional[Figures]:
 
 
 # ---------------------------------------------------------------------------------------------------
-# The table
+# The tables
 # ---------------------------------------------------------------------------------------------------
 
 HEADS = ["Seconds", "µs a request", "µs a unit", "Peak MiB", "Growth"]
+QUESTION_HEADS = ["µs a query", "Peak MiB", "Growth"]
+Side = Callable[[Workload, int], Optional[Figures]]
 
 
-def growth(now: Figures, size: int, before: Optional[Figures], size_before: int) -> str:
+def growth(now: Optional[Figures], size: int, before: Optional[Figures], size_before: int) -> str:
     """The exponent by which the time grew from one size to the next; a dash where it can't be told."""
-    if before is None or min(now.seconds, before.seconds) <= 0 or size == size_before:
+    if now is None or before is None or min(now.seconds, before.seconds) <= 0 or size == size_before:
         return "-"
     return f"{math.log(now.seconds / before.seconds) / math.log(size / size_before):.2f}"
 
 
-def cells(now: Optional[Figures], size: int, before: Optional[Figures], size_before: int) -> list[str]:
+def cells(now: Optional[Figures], size: int, grew: str) -> list[str]:
     """The cells of a row for one side."""
     if now is None:
         return ["-"] * len(HEADS)
     each = [now.seconds * 1e6 / count for count in (max(1, now.requests), size)]
-    return [f"{now.seconds:.3f}", *(f"{it:.2f}" for it in each), f"{now.peak:.0f}",
-            growth(now, size, before, size_before)]  # fmt: skip
+    return [f"{now.seconds:.3f}", *(f"{it:.2f}" for it in each), f"{now.peak:.0f}", grew]
+
+
+def question_cells(now: Optional[Figures], _: int, grew: str) -> list[str]:
+    """The cells of a question for one side, whose figures are of one query."""
+    return [f"{now.seconds * 1e6:.2f}", f"{now.peak:.0f}", grew] if now else ["-"] * len(QUESTION_HEADS)
 
 
 def row(words: Iterable[str]) -> None:
     print(f"| {' | '.join(words)} |", flush=True)
 
 
-def best(figures: Iterator[Optional[Figures]]) -> Optional[Figures]:
-    """The one of the fewest seconds."""
-    return min((one for one in figures if one), key=lambda one: one.seconds, default=None)
+def head(first: list[str], heads: list[str], sides: list[Side]) -> None:
+    """The head of a table: what stands before the sides, and the heads of each."""
+    names = [*first, *heads, *(f"SQLite: {head}" for _ in sides[1:] for head in heads)]
+    row(names)
+    row(["---", *("---:" for _ in names[1:])])
 
 
-def table(program: Path, workloads: list[Workload], sizes: list[int], repeat: int, has_sqlite: bool) -> None:
-    """Prints the table, a row as soon as it is measured."""
-    sides = [lambda work, size: of_program(program, work, size), *([of_sqlite] if has_sqlite else [])]
-    heads = ["Workload", "Size", *HEADS, *(f"SQLite: {head}" for head in HEADS if has_sqlite)]
-    row(heads)
-    row(["---", *("---:" for _ in heads[1:])])
+class Measured(NamedTuple):
+    """What the sides took at a size, and by which exponents that grew since the size before."""
+
+    size: int
+    figures: list[Optional[Figures]]
+    grew: list[str]
+
+    def shown(self, cells_of: Callable[[Optional[Figures], int, str], list[str]]) -> Iterator[str]:
+        """The cells of all sides."""
+        return chain.from_iterable(cells_of(one, self.size, by) for one, by in zip(self.figures, self.grew))
+
+
+def measured(work: Workload, sizes: list[int], sides: list[Side]) -> Iterator[Measured]:
+    """What a workload takes at each size."""
+    before: list[Optional[Figures]] = [None for _ in sides]
+    size_before = 0
+    for size in sizes:
+        now = [side(work, size) for side in sides]
+        answered = {one.answered for one in now if one}
+        if len(answered) > 1:
+            raise Wrong(f"{work.name}: SQLite answers another length than the program: {answered} bytes")
+        yield Measured(size, now, [growth(one, size, last, size_before) for one, last in zip(now, before)])
+        before, size_before = now, size
+
+
+def is_left_out(program: Path, work: Workload) -> bool:
+    """Whether the program doesn't take what a workload declares, which is told then."""
+    if takes(program, work.schema):
+        return False
+    row([work.name, "left out: the program answers 98 to directives"])
+    return True
+
+
+def table(program: Path, workloads: list[Workload], sizes: list[int], sides: list[Side]) -> None:
+    """Prints the table of workloads, a row as soon as it is measured."""
+    head(["Workload", "Size"], HEADS, sides)
     for work in workloads:
-        if not takes(program, work.schema):
-            row([work.name, "left out: the program answers 98 to directives"])
+        if is_left_out(program, work):
             continue
-        before: list[Optional[Figures]] = [None for _ in sides]
-        size_before = 0
-        for size in sizes:
-            now = [best(side(work, size) for _ in range(repeat)) for side in sides]
-            shown = [cell for one, last in zip(now, before) for cell in cells(one, size, last, size_before)]
-            row([work.name, f"{size:,}", *shown])
-            before, size_before = list(now), size
+        for at in measured(work, sizes, sides):
+            row([work.name, f"{at.size:,}", *at.shown(cells)])
+
+
+def each(question: Question, side: Side) -> Side:
+    """What a side takes for one query of a question."""
+
+    def one(work: Workload, size: int) -> Optional[Figures]:
+        all_of_them = side(work, size)
+        return all_of_them and all_of_them._replace(seconds=all_of_them.seconds / question.times(size))
+
+    return one
+
+
+def question_table(program: Path, questions: list[Question], sizes: list[int], sides: list[Side]) -> None:
+    """Prints the table of questions, a row as soon as it is measured."""
+    head(["Question", "Nodes", "Queries", "Bytes an answer"], QUESTION_HEADS, sides)
+    for question in questions:
+        work = question.workload()
+        if is_left_out(program, work):
+            continue
+        for at in measured(work, sizes, [each(question, side) for side in sides]):
+            times = question.times(at.size)
+            answered = next(one.answered for one in at.figures if one)
+            row([work.name, f"{at.size:,}", f"{times:,}", f"{answered / times:,.0f}", *at.shown(question_cells)])
 
 
 def sizes_of(words: str) -> list[int]:
@@ -500,23 +495,33 @@ def main() -> int:
     words.add_argument("--program", type=Path, default=PROGRAM)
     words.add_argument("--quick", action="store_true", help="smaller sizes")
     words.add_argument("--sizes", type=sizes_of, default=None, help="other sizes")
-    words.add_argument("--only", default="", help="the workloads whose names have one of these words")
+    words.add_argument("--only", default="", help="those whose names have one of these words")
     words.add_argument("--repeat", type=int, default=1, help="takes the best of so many runs")
     words.add_argument("--plain", action="store_true", help="the program alone, without SQLite")
     words.add_argument("--in-sqlite", default=None, help=argparse.SUPPRESS)
     asked = words.parse_args()
-    sizes = asked.sizes or (QUICK if asked.quick else SIZES)
     if asked.in_sqlite is not None:
-        work = next(work for work in WORKLOADS if work.name == asked.in_sqlite)
-        print(json.dumps(in_sqlite(work, sizes[0])))
+        every = [*WORKLOADS, *(question.workload() for question in QUESTIONS)]
+        work = next(work for work in every if work.name == asked.in_sqlite)
+        print(json.dumps(in_sqlite(work, asked.sizes[0])))
         return 0
     workloads = [work for work in WORKLOADS if any(word in work.name for word in asked.only.split(","))]
-    if not workloads:
-        words.error(f"no workload is named so; there are: {'; '.join(work.name for work in WORKLOADS)}")
+    questions = [question for question in QUESTIONS if any(word in question.name for word in asked.only.split(","))]
+    if not workloads and not questions:
+        words.error(f"nothing is named so; there are: {'; '.join(it.name for it in (*WORKLOADS, *QUESTIONS))}")
     if not asked.program.exists():
         words.error(f"{asked.program} isn't built")
+    repeat = max(1, asked.repeat)
+    sides: list[Side] = [lambda work, size: of_program(asked.program, work, size, repeat)]
+    if not asked.plain:
+        sides.append(lambda work, size: of_sqlite(work, size, repeat))
     try:
-        table(asked.program, workloads, sizes, max(1, asked.repeat), not asked.plain)
+        if workloads:
+            table(asked.program, workloads, asked.sizes or (QUICK if asked.quick else SIZES), sides)
+        if workloads and questions:
+            print()
+        if questions:
+            question_table(asked.program, questions, asked.sizes or (QUICK if asked.quick else NODES), sides)
     except Wrong as wrong:
         print(f"bench: {wrong}", file=sys.stderr)
         return 1

@@ -1,19 +1,23 @@
-"""The bench: what its workloads are, that SQLite does the same, and the table."""
+"""The bench: what its workloads and questions are, that SQLite does the same, and the tables."""
 
 from __future__ import annotations
 
 import io
+import random
 import subprocess
 import sys
 import unittest
 from contextlib import redirect_stdout
-from itertools import chain
+from itertools import chain, islice
 
 import bench
+import bench_steps
 import plain_machine as plain
 from tests.helpers import SECONDS, TOOLS, InFolder
 
 SIZE = 40
+ASKED = 6
+QUESTION_WORK = [question.workload() for question in bench.QUESTIONS]
 
 
 def script_of(work: bench.Workload, size: int) -> bytes:
@@ -66,14 +70,56 @@ class Workloads(unittest.TestCase):
                 self.assertEqual(set(base.base.execute("select p, w, s from word")), texts)
 
     def test_words_are_terms(self) -> None:
-        self.assertEqual(len(set(bench.WORDS)), len(bench.WORDS))
-        self.assertTrue(all(word.isalpha() and word == word.casefold() for word in bench.WORDS))
+        words = bench_steps.WORDS
+        self.assertEqual(len(set(words)), len(words))
+        self.assertTrue(all(word.isalpha() and word == word.casefold() for word in words))
 
     def test_the_largest_bodies_and_scripts_fit(self) -> None:
-        for work in bench.WORKLOADS:
+        for work in (*bench.WORKLOADS, *QUESTION_WORK):
             lengths = [len(step.frame()) for step in chain(work.before(10_000), work.measured(10_000))]
             self.assertLess(max(lengths), plain.LONGEST_BODY, work.name)
-            self.assertLess(sum(lengths) * (max(bench.SIZES) // 10_000), bench.LONGEST_INPUT * 0.9, work.name)
+            most = max(*bench.SIZES, *bench.NODES)
+            self.assertLess(sum(lengths) * (most // 10_000), bench.LONGEST_INPUT * 0.9, work.name)
+
+
+class Questions(unittest.TestCase):
+    """Questions over the plain machine and over SQLite."""
+
+    def test_names(self) -> None:
+        names = [work.name for work in (*bench.WORKLOADS, *QUESTION_WORK)]
+        self.assertEqual(len(set(names)), len(names))
+        self.assertTrue(all(work.name.startswith("query: ") for work in QUESTION_WORK))
+
+    def test_sqlite_answers_the_same(self) -> None:
+        for question, work in zip(bench.QUESTIONS, QUESTION_WORK):
+            with self.subTest(question.name):
+                steps = list(bench.queries(islice(question.questions(SIZE), ASKED)))
+                asked = bench.Workload(question.name, question.schema, lambda _: iter(steps), work.before)
+                done = plain.run(script_of(asked, SIZE))
+                there = [reply.split(b"\n")[1].decode() for reply in done.replies if reply.startswith(b"ok query ")]
+                base = bench.Sqlite(work)
+                for step in work.before(SIZE):
+                    base.do(step)
+                self.assertEqual([base.query(step) for step in steps if step.verb == "query"], there)
+                self.assertEqual(len(there), ASKED)
+                self.assertEqual(base.answered, sum(map(len, there)))
+                self.assertIn(question.drawn(SIZE, random.Random(1)).field, max(there))
+
+    def test_how_often_they_are_asked(self) -> None:
+        for question, work in zip(bench.QUESTIONS, QUESTION_WORK):
+            verbs = [step.verb for step in work.measured(1_000)]
+            self.assertEqual(verbs, ["begin", *["query"] * question.times(1_000), "discard"])
+            self.assertLessEqual(4, min(question.times(size) for size in bench.NODES))
+
+    def test_how_many_nodes_are_answered(self) -> None:
+        wanted = {"eq, one": 1, "eq, a tenth": 200, "between": 100, "ge": 100, "has": 2_000, "filter": 500}
+        for part, count in wanted.items():
+            question = next(it for it in bench.QUESTIONS if it.name.startswith(f"query: {part}"))
+            base = bench.Sqlite(question.workload())
+            for triples in bench.transactions(question.stored(2_000), bench.LARGE):
+                base.do(triples)
+            answer = base.query(bench.Step("query", 1, asked=next(question.questions(2_000))))
+            self.assertAlmostEqual(answer.count('"uid":'), count, None, question.name, 50 if part == "filter" else 0)
 
 
 class Tables(InFolder):
@@ -94,22 +140,51 @@ class Tables(InFolder):
         self.assertEqual([cells[0][:9] for cells in rows[2:]], ["contended"] * 2 + ["hot key"] * 2)
         self.assertEqual([cells[1] for cells in rows[2:]], ["2", "4"] * 2)
 
+    def test_a_row_for_each_question_and_size(self) -> None:
+        shown = "import bench; bench.Question.times = lambda self, size: 3; raise SystemExit(bench.main())"
+        words = ["--program", str(self.plain_program()), "--sizes", "2,4", "--only", "hot key,query: has", "--plain"]
+        done = subprocess.run([sys.executable, "-B", "-c", shown, *words], cwd=TOOLS, capture_output=True,
+                              encoding="utf-8", timeout=2 * SECONDS)  # fmt: skip
+        self.assertEqual((done.returncode, done.stderr), (0, ""))
+        lines = done.stdout.splitlines()
+        head = "| Question | Nodes | Queries | Bytes an answer | µs a query | Peak MiB | Growth |"
+        self.assertEqual([line == "" for line in lines].index(True), lines.index(head) - 1)
+        rows = [[cell.strip() for cell in line.strip("|").split("|")] for line in lines[lines.index(head) + 2 :]]
+        name = "query: has, all nodes"
+        self.assertEqual([cells[:4] for cells in rows], [[name, "2", "3", "44"], [name, "4", "3", "72"]])
+
     def test_growth(self) -> None:
         one, two = bench.Figures(1.0, 3, 1.0), bench.Figures(100.0, 30, 1.0)
         self.assertEqual(bench.growth(two, 1000, one, 100), "2.00")
         self.assertEqual(bench.growth(two, 1000, None, 0), "-")
         self.assertEqual(bench.growth(two, 1000, one._replace(seconds=0.0), 100), "-")
-        self.assertEqual(bench.cells(two, 1000, one, 100), ["100.000", "3333333.33", "100000.00", "1", "2.00"])
-        self.assertEqual(bench.cells(None, 1000, None, 100), ["-"] * 5)
-        self.assertEqual(bench.best(iter([two, one, None])), one)
-        self.assertIsNone(bench.best(iter([None])))
+        self.assertEqual(bench.growth(None, 1000, one, 100), "-")
+        self.assertEqual(bench.cells(two, 1000, "2.00"), ["100.000", "3333333.33", "100000.00", "1", "2.00"])
+        self.assertEqual(bench.cells(None, 1000, "-"), ["-"] * 5)
+        self.assertEqual(bench.question_cells(two, 1000, "2.00"), ["100000000.00", "1", "2.00"])
+        self.assertEqual(bench.question_cells(None, 1000, "-"), ["-"] * 3)
+
+    def test_figures_of_one_query(self) -> None:
+        question = next(it for it in bench.QUESTIONS if it.name.startswith("query: has"))
+        times = question.times(100_000)
+        side = bench.each(question, lambda work, size: bench.Figures(2.0 * times, times + 2, 1.0, 40))
+        self.assertEqual(side(question.workload(), 100_000), bench.Figures(2.0, times + 2, 1.0, 40))
+
+    def test_answers_of_another_length(self) -> None:
+        sides = [lambda work, size, long=long: bench.Figures(1.0, 1, 1.0, long) for long in (40, 41)]
+        with self.assertRaisesRegex(bench.Wrong, "SQLite answers another length"):
+            list(bench.measured(QUESTION_WORK[0], [1], sides))
 
     def test_without_directives(self) -> None:
         work = next(work for work in bench.WORKLOADS if work.index)
+        question = next(question for question in bench.QUESTIONS if question.index)
+        program = self.program(b"error 98 Unbuilt\n")
         out = io.StringIO()
         with redirect_stdout(out):
-            bench.table(self.program(b"error 98 Unbuilt\n"), [work], [5], 1, False)
-        self.assertIn(f"| {work.name} | left out: the program answers 98 to directives |\n", out.getvalue())
+            bench.table(program, [work], [5], [])
+            bench.question_table(program, [question], [5], [])
+        for name in (work.name, question.name):
+            self.assertIn(f"| {name} | left out: the program answers 98 to directives |\n", out.getvalue())
 
     def test_what_is_answered_wrong_ends_it(self) -> None:
         work = bench.Workload("one", bench.NAME, lambda size: bench.transactions(bench.names(size), 1))
@@ -126,7 +201,7 @@ class Tables(InFolder):
     def test_words_that_arent_understood(self) -> None:
         for words, said in (
             (["--program", str(self.folder / "none")], "isn't built"),
-            (["--only", "walks"], "no workload is named so"),
+            (["--only", "walks"], "nothing is named so"),
             (["--sizes", "0"], "expected sizes above 0"),
         ):
             done = self.bench(*words)

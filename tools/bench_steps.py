@@ -1,0 +1,155 @@
+"""What a script of the bench is made of: triples, questions and requests, with what SQLite is asked instead; what a
+workload is; and the data of workloads by their size."""
+
+from __future__ import annotations
+
+import json
+import random
+from collections.abc import Callable, Iterable, Iterator
+from dataclasses import dataclass
+from itertools import islice
+from typing import NamedTuple, Optional, Union
+
+# How many changes a transaction of a load has where something else is measured.
+LARGE = 1_000
+# What texts are made of.
+WORDS = [front + back for front in "bdfgklmnprstvz" for back in "ab ek il om un ast erd ink".split()]
+
+
+class Triple(NamedTuple):
+    """What is set: an object that is a number is a node, or else a value where that is said."""
+
+    subject: int
+    predicate: str
+    object: Union[int, str]
+    is_value: bool = False
+
+    @property
+    def place(self) -> tuple[str, int]:
+        return self.predicate, self.subject
+
+    def text(self) -> str:
+        is_node = isinstance(self.object, int) and not self.is_value
+        said = f"<{self.object:#x}>" if is_node else f'"{self.object}"'
+        return f"<{hex(self.subject)}> <{self.predicate}> {said} ."
+
+
+class Asked(NamedTuple):
+    """What is asked: a function and a filter, SQLite's statement of them with what is bound in it, and the field that
+    is shown, `uid` of nodes and else a predicate of values."""
+
+    function: str
+    statement: str
+    bound: tuple[Union[int, str], ...]
+    filter: str = ""
+    field: str = "uid"
+
+    def text(self) -> str:
+        return f"{{ q(func: {self.function}){self.filter} {{ {self.field} }} }}"
+
+    def answer(self, rows: Iterable[tuple[Union[int, str]]]) -> str:
+        """The text of an answer that has what these rows say."""
+        if self.field == "uid":
+            nodes = ",".join([f'{{"uid":"{node:#x}"}}' for node, in rows])
+        else:
+            nodes = ",".join([f'{{"{self.field}":{json.dumps(value)}}}' for value, in rows])
+        return f'{{"data":{{"q":[{nodes}]}}}}'
+
+
+class Step(NamedTuple):
+    """A request: a mutation's triples, or what a query asks."""
+
+    verb: str
+    session: int
+    triples: tuple[Triple, ...] = ()
+    asked: Optional[Asked] = None
+
+    def frame(self) -> bytes:
+        if self.verb == "mutate":
+            body = "\n".join(triple.text() for triple in self.triples)
+        elif self.asked:
+            body = self.asked.text()
+        else:
+            return f"{self.verb} {self.session}\n".encode()
+        return f"{self.verb} {self.session} {len(body)}\n{body}\n".encode()
+
+
+Steps = Iterator[Step]
+
+
+def nothing(_: int) -> Steps:
+    """No data are needed first."""
+    return iter(())
+
+
+@dataclass(frozen=True)
+class Workload:
+    """What is declared, what is done first, and what is measured, by size; which index SQLite has for it; whether
+    transactions overlap, so that commits may be refused; and whether reads are of an older moment, which SQLite doesn't
+    keep in memory."""
+
+    name: str
+    schema: str
+    measured: Callable[[int], Steps]
+    before: Callable[[int], Steps] = nothing
+    index: str = ""
+    overlaps: bool = False
+    is_older: bool = False
+
+
+def transactions(triples: Iterable[Triple], each: int) -> Steps:
+    """The triples, so many in each transaction."""
+    rest = iter(triples)
+    while batch := tuple(islice(rest, each)):
+        yield Step("begin", 1)
+        yield Step("mutate", 1, batch)
+        yield Step("commit", 1)
+
+
+def queries(questions: Iterable[Asked]) -> Steps:
+    """The questions, in one transaction."""
+    yield Step("begin", 1)
+    yield from (Step("query", 1, asked=asked) for asked in questions)
+    yield Step("discard", 1)
+
+
+def name_of(node: int) -> Asked:
+    """The name of a node."""
+    return Asked(f"uid({hex(node)})", "select o from triple where p = ? and s = ?", ("name", node), field="name")
+
+
+# ---------------------------------------------------------------------------------------------------
+# Data
+# ---------------------------------------------------------------------------------------------------
+
+
+def names(size: int, many: int = 1_000) -> Iterator[Triple]:
+    """A name for each node, of so many names."""
+    return (Triple(node, "name", f"name {node % many}") for node in range(1, size + 1))
+
+
+def texts(size: int) -> Iterator[Triple]:
+    """A text of three words for each node."""
+    draw = random.Random(size)
+    return (Triple(node, "text", " ".join(draw.sample(WORDS, 3))) for node in range(1, size + 1))
+
+
+def edges(size: int) -> Iterator[Triple]:
+    """An edge from each node to one of a hundred."""
+    draw = random.Random(size)
+    return (Triple(node, "friend", draw.randrange(1, 101)) for node in range(1, size + 1))
+
+
+def ranks(size: int) -> Iterator[Triple]:
+    """A number for each node, each of as many numbers once."""
+    numbers = random.Random(size).sample(range(1, size + 1), size)
+    return (Triple(node, "rank", number, True) for node, number in enumerate(numbers, 1))
+
+
+NAME = "name: string .\n"
+RANK = "rank: int @index(int) .\n"
+INDEXED = {
+    "exact": ("name: string @index(exact) .\n", names),
+    "term": ("text: string @index(term) .\n", texts),
+    "reverse": ("friend: [uid] @reverse .\n", edges),
+}
