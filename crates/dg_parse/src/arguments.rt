@@ -9,7 +9,7 @@ ghost use Rattle.dg_parse.specs.Arguments as spec;
 
 use crate::names::{int_at, pred_at, val_at};
 use crate::tokens::{argument_at, uid_at};
-use crate::words::{ArgWord, Words};
+use crate::words::{ArgWord, argument_of};
 use crate::{QArg, QOrder};
 use dg_text::choices::{next_is_punct, next_is_word};
 use dg_text::passed::{Passed, mark_at};
@@ -98,15 +98,10 @@ fn value_at(
 
 // An argument.
 #[tactic(auto, unfolding(crate::specs::Arguments::arg))]
-fn arg_at(
-    alloc: Global,
-    words: &Words,
-    tokens: &[Piece],
-    p: Passed,
-) -> Result<(QArg, Passed), ReadError>
+fn arg_at(alloc: Global, tokens: &[Piece], p: Passed) -> Result<(QArg, Passed), ReadError>
     ensures { Gives (λ x. x) (toks tokens.now) result (spec.arg (left_of (toks tokens.now) p)) }
 {
-    let (word, p) = argument_at(words, tokens, p)?;
+    let (word, p) = argument_at(tokens, p)?;
     let (_, p) = mark_at(tokens, p, b':')?;
     value_at(alloc, word, tokens, p)
 }
@@ -115,7 +110,6 @@ fn arg_at(
 #[tactic(auto, unfolding(crate::specs::Arguments::comma_arg))]
 fn comma_arg_at(
     alloc: Global,
-    words: &Words,
     mut before: List<QArg>,
     tokens: &[Piece],
     p: Passed,
@@ -123,7 +117,7 @@ fn comma_arg_at(
     ensures { Gives (λ x. x) (toks tokens.now) result (spec.comma_arg before (left_of (toks tokens.now) p)) }
 {
     let (_, p) = mark_at(tokens, p, b',')?;
-    let (arg, p) = arg_at(alloc, words, tokens, p)?;
+    let (arg, p) = arg_at(alloc, tokens, p)?;
     before.push(arg)?;
     Ok((before, p))
 }
@@ -132,7 +126,6 @@ fn comma_arg_at(
 #[tactic(auto, using(dg_text::proofs::Turns::goes_on, dg_text::proofs::Turns::ends, dg_text::proofs::Turns::stops, dg_text::proofs::Turns::is_done))]
 pub fn more_args_at(
     alloc: Global,
-    words: &Words,
     before: List<QArg>,
     tokens: &[Piece],
     start: Passed,
@@ -146,7 +139,7 @@ pub fn more_args_at(
         if !next_is_punct(tokens, p.at, b',') {
             return Ok((all, p));
         }
-        let (more, after) = comma_arg_at(alloc, words, all, tokens, p)?;
+        let (more, after) = comma_arg_at(alloc, all, tokens, p)?;
         all = more;
         p = after;
     }
@@ -154,39 +147,37 @@ pub fn more_args_at(
 }
 
 // Whether an argument begins at the place.
-fn arg_begins(words: &Words, tokens: &[Piece], at: usize) -> bool
+fn arg_begins(tokens: &[Piece], at: usize) -> bool
     ensures { result ≡ spec.begins_arg (drop at (toks tokens.now)) }
 {
-    peek(tokens, at).is_some_and(|t| words.argument_of(t).is_some())
+    peek(tokens, at).is_some_and(|t| argument_of(t).is_some())
 }
 
 // One argument or more.
 #[tactic(auto, unfolding(crate::specs::Arguments::some_args))]
 fn some_args_at(
     alloc: Global,
-    words: &Words,
     tokens: &[Piece],
     p: Passed,
 ) -> Result<(List<QArg>, Passed), ReadError>
     ensures { Gives (λ x. x) (toks tokens.now) result (spec.some_args (left_of (toks tokens.now) p)) }
 {
-    let (arg, p) = arg_at(alloc, words, tokens, p)?;
+    let (arg, p) = arg_at(alloc, tokens, p)?;
     let mut all = List::new(alloc);
     all.push(arg)?;
-    more_args_at(alloc, words, all, tokens, p)
+    more_args_at(alloc, all, tokens, p)
 }
 
 // Arguments, or none.
 fn listed_args_at(
     alloc: Global,
-    words: &Words,
     tokens: &[Piece],
     p: Passed,
 ) -> Result<(List<QArg>, Passed), ReadError>
     ensures { Gives (λ x. x) (toks tokens.now) result (optional spec.begins_arg spec.some_args [] (left_of (toks tokens.now) p)) }
 {
-    if arg_begins(words, tokens, p.at) {
-        some_args_at(alloc, words, tokens, p)
+    if arg_begins(tokens, p.at) {
+        some_args_at(alloc, tokens, p)
     } else {
         Ok((List::new(alloc), p))
     }
@@ -196,14 +187,13 @@ fn listed_args_at(
 #[tactic(auto, unfolding(crate::specs::Arguments::bracketed_args))]
 fn bracketed_args_at(
     alloc: Global,
-    words: &Words,
     tokens: &[Piece],
     p: Passed,
 ) -> Result<(List<QArg>, Passed), ReadError>
     ensures { Gives (λ x. x) (toks tokens.now) result (spec.bracketed_args (left_of (toks tokens.now) p)) }
 {
     let (_, p) = mark_at(tokens, p, b'(')?;
-    let (all, p) = listed_args_at(alloc, words, tokens, p)?;
+    let (all, p) = listed_args_at(alloc, tokens, p)?;
     let (_, p) = mark_at(tokens, p, b')')?;
     Ok((all, p))
 }
@@ -211,14 +201,13 @@ fn bracketed_args_at(
 /// The arguments of an edge, where brackets come next.
 pub fn any_args_at(
     alloc: Global,
-    words: &Words,
     tokens: &[Piece],
     p: Passed,
 ) -> Result<(List<QArg>, Passed), ReadError>
     ensures { Gives (λ x. x) (toks tokens.now) result (optional (next (is_punct open_round)) spec.bracketed_args [] (left_of (toks tokens.now) p)) }
 {
     if next_is_punct(tokens, p.at, b'(') {
-        bracketed_args_at(alloc, words, tokens, p)
+        bracketed_args_at(alloc, tokens, p)
     } else {
         Ok((List::new(alloc), p))
     }

@@ -13,7 +13,6 @@ use crate::functions::func_at;
 use crate::items::Around;
 use crate::listed::Blocks;
 use crate::names::any_variable_at;
-use crate::words::Words;
 use crate::{QArg, QBlock, QFunc, Query};
 use dg_text::choices::{next_is_name, next_is_word};
 use dg_text::passed::{Passed, mark_at, owned_name_at, refuse, word_at};
@@ -46,19 +45,14 @@ pub struct Head {
 
 // The function of a block, and its arguments.
 #[tactic(auto, unfolding(crate::specs::Grammar::root_part))]
-fn root_part_at(
-    alloc: Global,
-    words: &Words,
-    tokens: &[Piece],
-    p: Passed,
-) -> Result<(Root, Passed), ReadError>
+fn root_part_at(alloc: Global, tokens: &[Piece], p: Passed) -> Result<(Root, Passed), ReadError>
     requires { AreFew (toks tokens.now) }
     ensures { Gives (λ x. x) (toks tokens.now) result (spec.root_part (left_of (toks tokens.now) p)) }
 {
     let (_, p) = word_at(tokens, p, "func")?;
     let (_, p) = mark_at(tokens, p, b':')?;
-    let (func, p) = func_at(alloc, words, true, tokens, p)?;
-    let (args, p) = more_args_at(alloc, words, List::new(alloc), tokens, p)?;
+    let (func, p) = func_at(alloc, true, tokens, p)?;
+    let (args, p) = more_args_at(alloc, List::new(alloc), tokens, p)?;
     Ok((
         Root {
             func: Some(func),
@@ -69,17 +63,12 @@ fn root_part_at(
 }
 
 // What stands in the brackets of a block.
-fn root_at(
-    alloc: Global,
-    words: &Words,
-    tokens: &[Piece],
-    p: Passed,
-) -> Result<(Root, Passed), ReadError>
+fn root_at(alloc: Global, tokens: &[Piece], p: Passed) -> Result<(Root, Passed), ReadError>
     requires { AreFew (toks tokens.now) }
     ensures { Gives (λ x. x) (toks tokens.now) result (optional (next (is_word (codes "func"))) spec.root_part spec.no_root (left_of (toks tokens.now) p)) }
 {
     if next_is_word(tokens, p.at, "func") {
-        root_part_at(alloc, words, tokens, p)
+        root_part_at(alloc, tokens, p)
     } else {
         Ok((
             Root {
@@ -101,7 +90,6 @@ fn is_second(blocks: &Blocks, name: &Str) -> bool
 #[tactic(auto, unfolding(crate::specs::Grammar::head))]
 fn head_at(
     alloc: Global,
-    words: &Words,
     before: &Blocks,
     tokens: &[Piece],
     p: Passed,
@@ -115,7 +103,7 @@ fn head_at(
     let (name, p) = owned_name_at(alloc, tokens, p)?;
     let p = refuse(p, place, is_second(before, &name));
     let (_, p) = mark_at(tokens, p, b'(')?;
-    let (root, p) = root_at(alloc, words, tokens, p)?;
+    let (root, p) = root_at(alloc, tokens, p)?;
     let (_, p) = mark_at(tokens, p, b')')?;
     let has_func = root.func.is_some();
     let p = refuse(p, as_place, has_var && !has_func);
@@ -132,7 +120,6 @@ fn head_at(
 #[tactic(auto, unfolding(crate::specs::Grammar::block))]
 fn block_at(
     alloc: Global,
-    words: &Words,
     before: Blocks,
     tokens: &[Piece],
     p: Passed,
@@ -140,7 +127,7 @@ fn block_at(
     requires { AreFew (toks tokens.now) }
     ensures { Gives (λ x. x) (toks tokens.now) result (spec.block before (left_of (toks tokens.now) p)) }
 {
-    let (head, p) = head_at(alloc, words, &before, tokens, p)?;
+    let (head, p) = head_at(alloc, &before, tokens, p)?;
     let has_func = head.root.func.is_some();
     let owner = Owner {
         block: true,
@@ -148,13 +135,13 @@ fn block_at(
         recurse: false,
         as_place: head.as_place,
     };
-    let (marks, p) = dirs_at(alloc, words, owner, tokens, p)?;
+    let (marks, p) = dirs_at(alloc, owner, tokens, p)?;
     let (_, p) = mark_at(tokens, p, b'{')?;
     let around = Around {
         has_func,
         recurse: marks.recursed != 0,
     };
-    let (fields, p) = fields_at(alloc, words, around, 33, tokens, p)?;
+    let (fields, p) = fields_at(alloc, around, 33, tokens, p)?;
     let (_, p) = mark_at(tokens, p, b'}')?;
     let block = QBlock {
         var: head.var,
@@ -172,7 +159,6 @@ fn block_at(
 #[tactic(auto, using(dg_text::proofs::Turns::goes_on, dg_text::proofs::Turns::ends, dg_text::proofs::Turns::stops, dg_text::proofs::Turns::is_done))]
 fn more_blocks_at(
     alloc: Global,
-    words: &Words,
     tokens: &[Piece],
     start: Passed,
 ) -> Result<(Blocks, Passed), ReadError>
@@ -186,7 +172,7 @@ fn more_blocks_at(
         if !next_is_name(tokens, p.at) {
             return Ok((all, p));
         }
-        let (more, after) = block_at(alloc, words, all, tokens, p)?;
+        let (more, after) = block_at(alloc, all, tokens, p)?;
         all = more;
         p = after;
     }
@@ -197,7 +183,6 @@ fn more_blocks_at(
 #[tactic(auto, unfolding(crate::specs::Grammar::braced_blocks))]
 pub fn braced_blocks_at(
     alloc: Global,
-    words: &Words,
     tokens: &[Piece],
     p: Passed,
 ) -> Result<(Query, Passed), ReadError>
@@ -205,7 +190,7 @@ pub fn braced_blocks_at(
     ensures { Gives (λ x. x) (toks tokens.now) result (spec.braced_blocks (left_of (toks tokens.now) p)) }
 {
     let (_, p) = mark_at(tokens, p, b'{')?;
-    let (all, p) = more_blocks_at(alloc, words, tokens, p)?;
+    let (all, p) = more_blocks_at(alloc, tokens, p)?;
     let (_, p) = mark_at(tokens, p, b'}')?;
     let blocks = all.into_list();
     Ok((Query { blocks }, p))
@@ -224,15 +209,10 @@ fn past_query(tokens: &[Piece], p: Passed) -> Result<((), Passed), ReadError>
 
 /// A query.
 #[tactic(auto, unfolding(crate::specs::Grammar::query))]
-pub fn query_at(
-    alloc: Global,
-    words: &Words,
-    tokens: &[Piece],
-    p: Passed,
-) -> Result<(Query, Passed), ReadError>
+pub fn query_at(alloc: Global, tokens: &[Piece], p: Passed) -> Result<(Query, Passed), ReadError>
     requires { AreFew (toks tokens.now) }
     ensures { Gives (λ x. x) (toks tokens.now) result (spec.query (left_of (toks tokens.now) p)) }
 {
     let (_, p) = past_query(tokens, p)?;
-    braced_blocks_at(alloc, words, tokens, p)
+    braced_blocks_at(alloc, tokens, p)
 }

@@ -10,7 +10,6 @@ ghost use Rattle.dg_parse.specs.Sizes.{AreFew};
 use crate::filters::nots_at;
 use crate::names::{int_at, round_name_at};
 use crate::tokens::comparison_word_at;
-use crate::words::Words;
 use crate::{UCond, UPart};
 use dg_text::choices::{next_is_punct, next_is_word_any_case};
 use dg_text::passed::{Passed, mark_at, stopped, word_any_case_at, word_at};
@@ -32,16 +31,11 @@ fn negate(nots: usize, condition: UCond) -> UCond
 
 // A comparison of the number of a variable's nodes.
 #[tactic(auto, unfolding(crate::specs::Conditions::len_alone))]
-fn len_condition(
-    alloc: Global,
-    words: &Words,
-    tokens: &[Piece],
-    p: Passed,
-) -> Result<(UCond, Passed), ReadError>
+fn len_condition(alloc: Global, tokens: &[Piece], p: Passed) -> Result<(UCond, Passed), ReadError>
     ensures gives { Gives (λ f. f) (toks tokens.now) result (spec.len_alone (left_of (toks tokens.now) p)) }
     ensures few { IfOk result (λ r. r.0.nots ≤ 0) }
 {
-    let (op, p) = comparison_word_at(words, tokens, p)?;
+    let (op, p) = comparison_word_at(tokens, p)?;
     let (_, p) = mark_at(tokens, p, b'(')?;
     let (_, p) = word_at(tokens, p, "len")?;
     let (var, p) = round_name_at(alloc, tokens, p)?;
@@ -61,7 +55,6 @@ fn len_condition(
 #[cycle(conditions)]
 fn bracketed_at(
     alloc: Global,
-    words: &Words,
     depth: u32,
     tokens: &[Piece],
     p: Passed,
@@ -71,7 +64,7 @@ fn bracketed_at(
     ensures few { IfOk result (λ r. r.0.nots ≤ 1048576 * depth) }
 {
     let (_, p) = mark_at(tokens, p, b'(')?;
-    let (f, p) = condition_at(alloc, words, depth, tokens, p)?;
+    let (f, p) = condition_at(alloc, depth, tokens, p)?;
     let (_, p) = mark_at(tokens, p, b')')?;
     Ok((f, p))
 }
@@ -80,7 +73,6 @@ fn bracketed_at(
 #[cycle(conditions)]
 fn atom_at(
     alloc: Global,
-    words: &Words,
     depth: u32,
     tokens: &[Piece],
     p: Passed,
@@ -90,9 +82,9 @@ fn atom_at(
     ensures few { IfOk result (λ r. r.0.nots ≤ 1048576 * depth) }
 {
     if next_is_punct(tokens, p.at, b'(') {
-        bracketed_at(alloc, words, depth, tokens, p)
+        bracketed_at(alloc, depth, tokens, p)
     } else {
-        len_condition(alloc, words, tokens, p)
+        len_condition(alloc, tokens, p)
     }
 }
 
@@ -100,7 +92,6 @@ fn atom_at(
 #[cycle(conditions)]
 fn not_at(
     alloc: Global,
-    words: &Words,
     depth: u32,
     tokens: &[Piece],
     p: Passed,
@@ -110,7 +101,7 @@ fn not_at(
     ensures few { IfOk result (λ r. r.0.nots ≤ 1048576 * depth + 1048576) }
 {
     let (nots, p) = nots_at(tokens, p)?;
-    let (f, p) = atom_at(alloc, words, depth, tokens, p)?;
+    let (f, p) = atom_at(alloc, depth, tokens, p)?;
     Ok((negate(nots, f), p))
 }
 
@@ -118,7 +109,6 @@ fn not_at(
 #[cycle(conditions)]
 fn and_more_at(
     alloc: Global,
-    words: &Words,
     depth: u32,
     mut before: List<UCond>,
     tokens: &[Piece],
@@ -128,7 +118,7 @@ fn and_more_at(
     ensures { Gives (λ all. all) (toks tokens.now) result (spec.and_more (spec.condition depth) before (left_of (toks tokens.now) p)) }
 {
     let (_, p) = word_any_case_at(tokens, p, "and")?;
-    let (f, p) = not_at(alloc, words, depth, tokens, p)?;
+    let (f, p) = not_at(alloc, depth, tokens, p)?;
     before.push(f)?;
     Ok((before, p))
 }
@@ -137,7 +127,6 @@ fn and_more_at(
 #[cycle(conditions)]
 fn ands_from(
     alloc: Global,
-    words: &Words,
     depth: u32,
     before: List<UCond>,
     tokens: &[Piece],
@@ -153,7 +142,7 @@ fn ands_from(
         if !next_is_word_any_case(tokens, p.at, "and") {
             return Ok((all, p));
         }
-        let (more, after) = and_more_at(alloc, words, depth, all, tokens, p)?;
+        let (more, after) = and_more_at(alloc, depth, all, tokens, p)?;
         all = more;
         p = after;
     }
@@ -164,7 +153,6 @@ fn ands_from(
 #[cycle(conditions)]
 fn and_rest_at(
     alloc: Global,
-    words: &Words,
     depth: u32,
     first: UCond,
     tokens: &[Piece],
@@ -175,7 +163,7 @@ fn and_rest_at(
     ensures few { IfOk result (λ r. r.0.nots ≤ 1048576 * depth + 1048576) }
 {
     let one = one_condition(alloc, first)?;
-    let (all, p) = ands_from(alloc, words, depth, one, tokens, p)?;
+    let (all, p) = ands_from(alloc, depth, one, tokens, p)?;
     Ok((
         UCond {
             nots: 0,
@@ -189,7 +177,6 @@ fn and_rest_at(
 #[cycle(conditions)]
 fn and_at(
     alloc: Global,
-    words: &Words,
     depth: u32,
     tokens: &[Piece],
     p: Passed,
@@ -198,9 +185,9 @@ fn and_at(
     ensures gives { Gives (λ f. f) (toks tokens.now) result (spec.and_of (spec.condition depth) (left_of (toks tokens.now) p)) }
     ensures few { IfOk result (λ r. r.0.nots ≤ 1048576 * depth + 1048576) }
 {
-    let (first, p) = not_at(alloc, words, depth, tokens, p)?;
+    let (first, p) = not_at(alloc, depth, tokens, p)?;
     if next_is_word_any_case(tokens, p.at, "and") {
-        and_rest_at(alloc, words, depth, first, tokens, p)
+        and_rest_at(alloc, depth, first, tokens, p)
     } else {
         Ok((first, p))
     }
@@ -210,7 +197,6 @@ fn and_at(
 #[cycle(conditions)]
 fn or_more_at(
     alloc: Global,
-    words: &Words,
     depth: u32,
     mut before: List<UCond>,
     tokens: &[Piece],
@@ -220,7 +206,7 @@ fn or_more_at(
     ensures { Gives (λ all. all) (toks tokens.now) result (spec.or_more (spec.condition depth) before (left_of (toks tokens.now) p)) }
 {
     let (_, p) = word_any_case_at(tokens, p, "or")?;
-    let (f, p) = and_at(alloc, words, depth, tokens, p)?;
+    let (f, p) = and_at(alloc, depth, tokens, p)?;
     before.push(f)?;
     Ok((before, p))
 }
@@ -229,7 +215,6 @@ fn or_more_at(
 #[cycle(conditions)]
 fn ors_from(
     alloc: Global,
-    words: &Words,
     depth: u32,
     before: List<UCond>,
     tokens: &[Piece],
@@ -245,7 +230,7 @@ fn ors_from(
         if !next_is_word_any_case(tokens, p.at, "or") {
             return Ok((all, p));
         }
-        let (more, after) = or_more_at(alloc, words, depth, all, tokens, p)?;
+        let (more, after) = or_more_at(alloc, depth, all, tokens, p)?;
         all = more;
         p = after;
     }
@@ -256,7 +241,6 @@ fn ors_from(
 #[cycle(conditions)]
 fn or_rest_at(
     alloc: Global,
-    words: &Words,
     depth: u32,
     first: UCond,
     tokens: &[Piece],
@@ -267,7 +251,7 @@ fn or_rest_at(
     ensures few { IfOk result (λ r. r.0.nots ≤ 1048576 * depth + 1048576) }
 {
     let one = one_condition(alloc, first)?;
-    let (all, p) = ors_from(alloc, words, depth, one, tokens, p)?;
+    let (all, p) = ors_from(alloc, depth, one, tokens, p)?;
     Ok((
         UCond {
             nots: 0,
@@ -281,7 +265,6 @@ fn or_rest_at(
 #[cycle(conditions)]
 fn or_at(
     alloc: Global,
-    words: &Words,
     depth: u32,
     tokens: &[Piece],
     p: Passed,
@@ -290,9 +273,9 @@ fn or_at(
     ensures gives { Gives (λ f. f) (toks tokens.now) result (spec.or_of (spec.condition depth) (left_of (toks tokens.now) p)) }
     ensures few { IfOk result (λ r. r.0.nots ≤ 1048576 * depth + 1048576) }
 {
-    let (first, p) = and_at(alloc, words, depth, tokens, p)?;
+    let (first, p) = and_at(alloc, depth, tokens, p)?;
     if next_is_word_any_case(tokens, p.at, "or") {
-        or_rest_at(alloc, words, depth, first, tokens, p)
+        or_rest_at(alloc, depth, first, tokens, p)
     } else {
         Ok((first, p))
     }
@@ -303,7 +286,6 @@ fn or_at(
 #[cycle(conditions)]
 pub fn condition_at(
     alloc: Global,
-    words: &Words,
     depth: u32,
     tokens: &[Piece],
     p: Passed,
@@ -315,7 +297,7 @@ pub fn condition_at(
     if depth == 0 {
         return Err(stopped(tokens, p));
     }
-    or_at(alloc, words, depth - 1, tokens, p)
+    or_at(alloc, depth - 1, tokens, p)
 }
 
 // A list of one condition.

@@ -9,7 +9,7 @@ use crate::QDir;
 use crate::filters::filter_at;
 use crate::options::any_options_at;
 use crate::tokens::directive_at;
-use crate::words::{DirWord, Words};
+use crate::words::{DirWord, directive_of};
 use dg_text::passed::{Passed, mark_at, refuse};
 use dg_text::reading::{left, peek};
 use dg_text::{Piece, ReadError};
@@ -48,7 +48,6 @@ pub struct Marks {
 #[tactic(auto, unfolding(crate::specs::Directives::filter_dir))]
 fn filter_dir_at(
     alloc: Global,
-    words: &Words,
     m: Marks,
     place: usize,
     tokens: &[Piece],
@@ -58,7 +57,7 @@ fn filter_dir_at(
     ensures { Gives (λ x. x) (toks tokens.now) result (spec.filter_dir m place (left_of (toks tokens.now) p)) }
 {
     let (_, p) = mark_at(tokens, p, b'(')?;
-    let (filter, p) = filter_at(alloc, words, 33, tokens, p)?;
+    let (filter, p) = filter_at(alloc, 33, tokens, p)?;
     let (_, p) = mark_at(tokens, p, b')')?;
     let mut dirs = m.dirs;
     dirs.push(QDir::Filter(filter))?;
@@ -161,7 +160,6 @@ fn recurse_dir_at(
 #[tactic(auto, unfolding(crate::specs::Directives::dir_of))]
 fn dir_of_at(
     alloc: Global,
-    words: &Words,
     owner: Owner,
     m: Marks,
     place: usize,
@@ -173,7 +171,7 @@ fn dir_of_at(
     ensures { Gives (λ x. x) (toks tokens.now) result (spec.dir_of owner m place word (left_of (toks tokens.now) p)) }
 {
     match word {
-        DirWord::Filter => filter_dir_at(alloc, words, m, place, tokens, p),
+        DirWord::Filter => filter_dir_at(alloc, m, place, tokens, p),
         DirWord::Cascade => cascade_dir_at(owner, m, place, tokens, p),
         DirWord::Normalize => normalize_dir_at(owner, m, place, tokens, p),
         DirWord::Recurse => recurse_dir_at(alloc, owner, m, place, tokens, p),
@@ -195,7 +193,6 @@ fn is_marked(m: &Marks, word: DirWord) -> bool
 #[tactic(auto, unfolding(crate::specs::Directives::dir))]
 fn dir_at(
     alloc: Global,
-    words: &Words,
     owner: Owner,
     m: Marks,
     tokens: &[Piece],
@@ -205,16 +202,16 @@ fn dir_at(
     ensures { Gives (λ x. x) (toks tokens.now) result (spec.dir owner m (left_of (toks tokens.now) p)) }
 {
     let place = left(tokens, p.at);
-    let (word, p) = directive_at(words, tokens, p)?;
+    let (word, p) = directive_at(tokens, p)?;
     let p = refuse(p, place, !owner.has_func || is_marked(&m, word));
-    dir_of_at(alloc, words, owner, m, place, word, tokens, p)
+    dir_of_at(alloc, owner, m, place, word, tokens, p)
 }
 
 // Whether a directive begins at the place.
-fn dir_begins(words: &Words, tokens: &[Piece], at: usize) -> bool
+fn dir_begins(tokens: &[Piece], at: usize) -> bool
     ensures { result ≡ spec.begins_dir (drop at (toks tokens.now)) }
 {
-    peek(tokens, at).is_some_and(|t| words.directive_of(t).is_some())
+    peek(tokens, at).is_some_and(|t| directive_of(t).is_some())
 }
 
 // No directive.
@@ -234,7 +231,6 @@ fn unmarked(alloc: Global) -> Marks
 #[tactic(auto, using(dg_text::proofs::Turns::goes_on, dg_text::proofs::Turns::ends, dg_text::proofs::Turns::stops, dg_text::proofs::Turns::is_done))]
 pub fn dirs_at(
     alloc: Global,
-    words: &Words,
     owner: Owner,
     tokens: &[Piece],
     start: Passed,
@@ -246,10 +242,10 @@ pub fn dirs_at(
     let mut all = unmarked(alloc);
     let mut p = start;
     for _ in 0..most {
-        if !dir_begins(words, tokens, p.at) {
+        if !dir_begins(tokens, p.at) {
             return Ok((all, p));
         }
-        let (more, after) = dir_at(alloc, words, owner, all, tokens, p)?;
+        let (more, after) = dir_at(alloc, owner, all, tokens, p)?;
         all = more;
         p = after;
     }

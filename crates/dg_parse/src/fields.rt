@@ -17,7 +17,6 @@ use crate::items::{Around, Start, agg_item_at, count_item_at, uid_item_at, val_i
 use crate::keys::key_of_edge;
 use crate::listed::Fields;
 use crate::names::edge_at;
-use crate::words::Words;
 use crate::{QEdge, QField, QItem};
 use dg_text::choices::{next_is_punct, next_is_word};
 use dg_text::passed::{Passed, mark_at, refuse, stopped};
@@ -48,7 +47,6 @@ fn refuse_edge(
 // The directives of an edge.
 fn edge_dirs_at(
     alloc: Global,
-    words: &Words,
     around: Around,
     tokens: &[Piece],
     p: Passed,
@@ -62,7 +60,7 @@ fn edge_dirs_at(
         recurse: around.recurse,
         as_place: 0,
     };
-    dirs_at(alloc, words, owner, tokens, p)
+    dirs_at(alloc, owner, tokens, p)
 }
 
 // The fields in braces.
@@ -70,7 +68,6 @@ fn edge_dirs_at(
 #[cycle(fields)]
 fn braces_at(
     alloc: Global,
-    words: &Words,
     around: Around,
     depth: u32,
     tokens: &[Piece],
@@ -85,7 +82,7 @@ fn braces_at(
         next_is_punct(tokens, p.at, b'{') && around.recurse,
     );
     let (_, p) = mark_at(tokens, p, b'{')?;
-    let (fields, p) = fields_at(alloc, words, around, depth, tokens, p)?;
+    let (fields, p) = fields_at(alloc, around, depth, tokens, p)?;
     let (_, p) = mark_at(tokens, p, b'}')?;
     Ok((Some(fields), p))
 }
@@ -94,7 +91,6 @@ fn braces_at(
 #[cycle(fields)]
 fn any_braces_at(
     alloc: Global,
-    words: &Words,
     around: Around,
     depth: u32,
     tokens: &[Piece],
@@ -104,7 +100,7 @@ fn any_braces_at(
     ensures { Gives (λ x. x) (toks tokens.now) result (optional (next (is_punct open_curly)) (spec.braces around (spec.fields around depth)) None (left_of (toks tokens.now) p)) }
 {
     if next_is_punct(tokens, p.at, b'{') {
-        braces_at(alloc, words, around, depth, tokens, p)
+        braces_at(alloc, around, depth, tokens, p)
     } else {
         Ok((None, p))
     }
@@ -115,7 +111,6 @@ fn any_braces_at(
 #[cycle(fields)]
 fn edge_item_at(
     alloc: Global,
-    words: &Words,
     around: Around,
     depth: u32,
     s: Start,
@@ -128,9 +123,9 @@ fn edge_item_at(
 {
     let (edge, p) = edge_at(alloc, tokens, p)?;
     let p = refuse_edge(alloc, s, before, &edge, p)?;
-    let (args, p) = any_args_at(alloc, words, tokens, p)?;
-    let (marks, p) = edge_dirs_at(alloc, words, around, tokens, p)?;
-    let (fields, p) = any_braces_at(alloc, words, around, depth, tokens, p)?;
+    let (args, p) = any_args_at(alloc, tokens, p)?;
+    let (marks, p) = edge_dirs_at(alloc, around, tokens, p)?;
+    let (fields, p) = any_braces_at(alloc, around, depth, tokens, p)?;
     let item = QItem::Edge {
         edge,
         args,
@@ -145,7 +140,6 @@ fn edge_item_at(
 #[cycle(fields)]
 fn item_at(
     alloc: Global,
-    words: &Words,
     around: Around,
     depth: u32,
     s: Start,
@@ -162,10 +156,10 @@ fn item_at(
         count_item_at(alloc, around, s, before, tokens, p)
     } else if next_is_word(tokens, p.at, "val") {
         val_item_at(alloc, s, before, tokens, p)
-    } else if aggregate_begins(words, tokens, p.at) {
-        agg_item_at(alloc, words, s, before, tokens, p)
+    } else if aggregate_begins(tokens, p.at) {
+        agg_item_at(alloc, s, before, tokens, p)
     } else {
-        edge_item_at(alloc, words, around, depth, s, before, tokens, p)
+        edge_item_at(alloc, around, depth, s, before, tokens, p)
     }
 }
 
@@ -174,7 +168,6 @@ fn item_at(
 #[cycle(fields)]
 fn field_at(
     alloc: Global,
-    words: &Words,
     around: Around,
     depth: u32,
     before: Fields,
@@ -184,8 +177,8 @@ fn field_at(
     requires { AreFew (toks tokens.now) }
     ensures { Gives (λ x. x) (toks tokens.now) result (spec.field around (spec.fields around depth) before (left_of (toks tokens.now) p)) }
 {
-    let (front, p) = front_at(alloc, words, around, &before, tokens, p)?;
-    let (item, p) = item_at(alloc, words, around, depth, front.start, &before, tokens, p)?;
+    let (front, p) = front_at(alloc, around, &before, tokens, p)?;
+    let (item, p) = item_at(alloc, around, depth, front.start, &before, tokens, p)?;
     let p = past_comma(tokens, p);
     let field = QField {
         var: front.var,
@@ -201,7 +194,6 @@ fn field_at(
 #[cycle(fields)]
 fn all_fields_at(
     alloc: Global,
-    words: &Words,
     around: Around,
     depth: u32,
     tokens: &[Piece],
@@ -217,7 +209,7 @@ fn all_fields_at(
         if !field_begins(tokens, p.at) {
             return Ok((all, p));
         }
-        let (more, after) = field_at(alloc, words, around, depth, all, tokens, p)?;
+        let (more, after) = field_at(alloc, around, depth, all, tokens, p)?;
         all = more;
         p = after;
     }
@@ -229,7 +221,6 @@ fn all_fields_at(
 #[cycle(fields)]
 pub fn fields_at(
     alloc: Global,
-    words: &Words,
     around: Around,
     depth: u32,
     tokens: &[Piece],
@@ -241,6 +232,6 @@ pub fn fields_at(
     if depth == 0 {
         return Err(stopped(tokens, p));
     }
-    let (all, p) = all_fields_at(alloc, words, around, depth - 1, tokens, p)?;
+    let (all, p) = all_fields_at(alloc, around, depth - 1, tokens, p)?;
     Ok((all.into_list(), p))
 }

@@ -8,7 +8,6 @@ ghost use Rattle.dg_parse.specs.Filters as spec;
 ghost use Rattle.dg_parse.specs.Sizes.{AreFew};
 
 use crate::functions::func_at;
-use crate::words::Words;
 use crate::{QFilter, QPart};
 use dg_text::choices::{next_is_punct, next_is_word_any_case};
 use dg_text::passed::{Passed, mark_at, stopped, word_any_case_at};
@@ -51,17 +50,12 @@ fn negate(nots: usize, filter: QFilter) -> QFilter
 
 // A function as a filter.
 #[tactic(auto, unfolding(crate::specs::Filters::func_alone))]
-fn func_filter(
-    alloc: Global,
-    words: &Words,
-    tokens: &[Piece],
-    p: Passed,
-) -> Result<(QFilter, Passed), ReadError>
+fn func_filter(alloc: Global, tokens: &[Piece], p: Passed) -> Result<(QFilter, Passed), ReadError>
     requires { AreFew (toks tokens.now) }
     ensures gives { Gives (λ f. f) (toks tokens.now) result (spec.func_alone (left_of (toks tokens.now) p)) }
     ensures few { IfOk result (λ r. r.0.nots ≤ 0) }
 {
-    let (func, p) = func_at(alloc, words, false, tokens, p)?;
+    let (func, p) = func_at(alloc, false, tokens, p)?;
     Ok((
         QFilter {
             nots: 0,
@@ -75,7 +69,6 @@ fn func_filter(
 #[cycle(filter)]
 fn bracketed_at(
     alloc: Global,
-    words: &Words,
     depth: u32,
     tokens: &[Piece],
     p: Passed,
@@ -85,7 +78,7 @@ fn bracketed_at(
     ensures few { IfOk result (λ r. r.0.nots ≤ 1048576 * depth) }
 {
     let (_, p) = mark_at(tokens, p, b'(')?;
-    let (f, p) = filter_at(alloc, words, depth, tokens, p)?;
+    let (f, p) = filter_at(alloc, depth, tokens, p)?;
     let (_, p) = mark_at(tokens, p, b')')?;
     Ok((f, p))
 }
@@ -94,7 +87,6 @@ fn bracketed_at(
 #[cycle(filter)]
 fn atom_at(
     alloc: Global,
-    words: &Words,
     depth: u32,
     tokens: &[Piece],
     p: Passed,
@@ -104,9 +96,9 @@ fn atom_at(
     ensures few { IfOk result (λ r. r.0.nots ≤ 1048576 * depth) }
 {
     if next_is_punct(tokens, p.at, b'(') {
-        bracketed_at(alloc, words, depth, tokens, p)
+        bracketed_at(alloc, depth, tokens, p)
     } else {
-        func_filter(alloc, words, tokens, p)
+        func_filter(alloc, tokens, p)
     }
 }
 
@@ -114,7 +106,6 @@ fn atom_at(
 #[cycle(filter)]
 fn not_at(
     alloc: Global,
-    words: &Words,
     depth: u32,
     tokens: &[Piece],
     p: Passed,
@@ -124,7 +115,7 @@ fn not_at(
     ensures few { IfOk result (λ r. r.0.nots ≤ 1048576 * depth + 1048576) }
 {
     let (nots, p) = nots_at(tokens, p)?;
-    let (f, p) = atom_at(alloc, words, depth, tokens, p)?;
+    let (f, p) = atom_at(alloc, depth, tokens, p)?;
     Ok((negate(nots, f), p))
 }
 
@@ -132,7 +123,6 @@ fn not_at(
 #[cycle(filter)]
 fn and_more_at(
     alloc: Global,
-    words: &Words,
     depth: u32,
     mut before: List<QFilter>,
     tokens: &[Piece],
@@ -142,7 +132,7 @@ fn and_more_at(
     ensures { Gives (λ all. all) (toks tokens.now) result (spec.and_more (spec.filter depth) before (left_of (toks tokens.now) p)) }
 {
     let (_, p) = word_any_case_at(tokens, p, "and")?;
-    let (f, p) = not_at(alloc, words, depth, tokens, p)?;
+    let (f, p) = not_at(alloc, depth, tokens, p)?;
     before.push(f)?;
     Ok((before, p))
 }
@@ -151,7 +141,6 @@ fn and_more_at(
 #[cycle(filter)]
 fn ands_from(
     alloc: Global,
-    words: &Words,
     depth: u32,
     before: List<QFilter>,
     tokens: &[Piece],
@@ -167,7 +156,7 @@ fn ands_from(
         if !next_is_word_any_case(tokens, p.at, "and") {
             return Ok((all, p));
         }
-        let (more, after) = and_more_at(alloc, words, depth, all, tokens, p)?;
+        let (more, after) = and_more_at(alloc, depth, all, tokens, p)?;
         all = more;
         p = after;
     }
@@ -178,7 +167,6 @@ fn ands_from(
 #[cycle(filter)]
 fn and_rest_at(
     alloc: Global,
-    words: &Words,
     depth: u32,
     first: QFilter,
     tokens: &[Piece],
@@ -189,7 +177,7 @@ fn and_rest_at(
     ensures few { IfOk result (λ r. r.0.nots ≤ 1048576 * depth + 1048576) }
 {
     let one = one_filter(alloc, first)?;
-    let (all, p) = ands_from(alloc, words, depth, one, tokens, p)?;
+    let (all, p) = ands_from(alloc, depth, one, tokens, p)?;
     Ok((
         QFilter {
             nots: 0,
@@ -203,7 +191,6 @@ fn and_rest_at(
 #[cycle(filter)]
 fn and_at(
     alloc: Global,
-    words: &Words,
     depth: u32,
     tokens: &[Piece],
     p: Passed,
@@ -212,9 +199,9 @@ fn and_at(
     ensures gives { Gives (λ f. f) (toks tokens.now) result (spec.and_of (spec.filter depth) (left_of (toks tokens.now) p)) }
     ensures few { IfOk result (λ r. r.0.nots ≤ 1048576 * depth + 1048576) }
 {
-    let (first, p) = not_at(alloc, words, depth, tokens, p)?;
+    let (first, p) = not_at(alloc, depth, tokens, p)?;
     if next_is_word_any_case(tokens, p.at, "and") {
-        and_rest_at(alloc, words, depth, first, tokens, p)
+        and_rest_at(alloc, depth, first, tokens, p)
     } else {
         Ok((first, p))
     }
@@ -224,7 +211,6 @@ fn and_at(
 #[cycle(filter)]
 fn or_more_at(
     alloc: Global,
-    words: &Words,
     depth: u32,
     mut before: List<QFilter>,
     tokens: &[Piece],
@@ -234,7 +220,7 @@ fn or_more_at(
     ensures { Gives (λ all. all) (toks tokens.now) result (spec.or_more (spec.filter depth) before (left_of (toks tokens.now) p)) }
 {
     let (_, p) = word_any_case_at(tokens, p, "or")?;
-    let (f, p) = and_at(alloc, words, depth, tokens, p)?;
+    let (f, p) = and_at(alloc, depth, tokens, p)?;
     before.push(f)?;
     Ok((before, p))
 }
@@ -243,7 +229,6 @@ fn or_more_at(
 #[cycle(filter)]
 fn ors_from(
     alloc: Global,
-    words: &Words,
     depth: u32,
     before: List<QFilter>,
     tokens: &[Piece],
@@ -259,7 +244,7 @@ fn ors_from(
         if !next_is_word_any_case(tokens, p.at, "or") {
             return Ok((all, p));
         }
-        let (more, after) = or_more_at(alloc, words, depth, all, tokens, p)?;
+        let (more, after) = or_more_at(alloc, depth, all, tokens, p)?;
         all = more;
         p = after;
     }
@@ -270,7 +255,6 @@ fn ors_from(
 #[cycle(filter)]
 fn or_rest_at(
     alloc: Global,
-    words: &Words,
     depth: u32,
     first: QFilter,
     tokens: &[Piece],
@@ -281,7 +265,7 @@ fn or_rest_at(
     ensures few { IfOk result (λ r. r.0.nots ≤ 1048576 * depth + 1048576) }
 {
     let one = one_filter(alloc, first)?;
-    let (all, p) = ors_from(alloc, words, depth, one, tokens, p)?;
+    let (all, p) = ors_from(alloc, depth, one, tokens, p)?;
     Ok((
         QFilter {
             nots: 0,
@@ -295,7 +279,6 @@ fn or_rest_at(
 #[cycle(filter)]
 fn or_at(
     alloc: Global,
-    words: &Words,
     depth: u32,
     tokens: &[Piece],
     p: Passed,
@@ -304,9 +287,9 @@ fn or_at(
     ensures gives { Gives (λ f. f) (toks tokens.now) result (spec.or_of (spec.filter depth) (left_of (toks tokens.now) p)) }
     ensures few { IfOk result (λ r. r.0.nots ≤ 1048576 * depth + 1048576) }
 {
-    let (first, p) = and_at(alloc, words, depth, tokens, p)?;
+    let (first, p) = and_at(alloc, depth, tokens, p)?;
     if next_is_word_any_case(tokens, p.at, "or") {
-        or_rest_at(alloc, words, depth, first, tokens, p)
+        or_rest_at(alloc, depth, first, tokens, p)
     } else {
         Ok((first, p))
     }
@@ -317,7 +300,6 @@ fn or_at(
 #[cycle(filter)]
 pub fn filter_at(
     alloc: Global,
-    words: &Words,
     depth: u32,
     tokens: &[Piece],
     p: Passed,
@@ -329,7 +311,7 @@ pub fn filter_at(
     if depth == 0 {
         return Err(stopped(tokens, p));
     }
-    or_at(alloc, words, depth - 1, tokens, p)
+    or_at(alloc, depth - 1, tokens, p)
 }
 
 // A list of one filter.

@@ -7,7 +7,7 @@ ghost use Rattle.dg_parse.specs.Fields as spec;
 use crate::items::{Around, Start};
 use crate::listed::Fields;
 use crate::names::{any_alias_at, any_variable_at};
-use crate::words::Words;
+use crate::words::aggregate_of;
 use dg_text::kinds::{is_a_name, is_a_punct};
 use dg_text::passed::{Passed, refuse};
 use dg_text::reading::{left, peek};
@@ -27,19 +27,19 @@ pub struct Front {
 }
 
 /// Whether an aggregate begins at the place.
-pub fn aggregate_begins(words: &Words, tokens: &[Piece], at: usize) -> bool
+pub fn aggregate_begins(tokens: &[Piece], at: usize) -> bool
     ensures { result ≡ spec.begins_aggregate (drop at (toks tokens.now)) }
 {
-    peek(tokens, at).is_some_and(|t| words.aggregate_of(t).is_some())
+    peek(tokens, at).is_some_and(|t| aggregate_of(t).is_some())
 }
 
 // Whether an item that is no aggregate begins at the place.
-fn other_begins(words: &Words, tokens: &[Piece], at: usize) -> bool
+fn other_begins(tokens: &[Piece], at: usize) -> bool
     ensures { result ≡ spec.begins_other (drop at (toks tokens.now)) }
 {
     match peek(tokens, at) {
         None => false,
-        Some(t) => (is_a_name(t) || is_a_punct(t, b'~')) && words.aggregate_of(t).is_none(),
+        Some(t) => (is_a_name(t) || is_a_punct(t, b'~')) && aggregate_of(t).is_none(),
     }
 }
 
@@ -70,27 +70,18 @@ pub fn past_comma(tokens: &[Piece], p: Passed) -> Passed
 }
 
 // Refuses what may not begin an item in the block.
-fn refuse_item(words: &Words, around: Around, tokens: &[Piece], p: Passed) -> Passed
+fn refuse_item(around: Around, tokens: &[Piece], p: Passed) -> Passed
     ensures { result ≡ refused_at (refused_at p (length (drop p.at (toks tokens.now))) (spec.begins_aggregate (drop p.at (toks tokens.now)) && around.has_func)) (length (drop p.at (toks tokens.now))) (spec.begins_other (drop p.at (toks tokens.now)) && not around.has_func) }
 {
     let place = left(tokens, p.at);
-    let p = refuse(
-        p,
-        place,
-        aggregate_begins(words, tokens, p.at) && around.has_func,
-    );
-    refuse(
-        p,
-        place,
-        other_begins(words, tokens, p.at) && !around.has_func,
-    )
+    let p = refuse(p, place, aggregate_begins(tokens, p.at) && around.has_func);
+    refuse(p, place, other_begins(tokens, p.at) && !around.has_func)
 }
 
 /// What stands in front of an item.
 #[tactic(auto, unfolding(crate::specs::Fields::front))]
 pub fn front_at(
     alloc: Global,
-    words: &Words,
     around: Around,
     before: &Fields,
     tokens: &[Piece],
@@ -105,7 +96,7 @@ pub fn front_at(
     let has_alias = alias.is_some();
     let place = left(tokens, p.at);
     let p = refuse(p, place, before.has_alias(&alias));
-    let p = refuse_item(words, around, tokens, p);
+    let p = refuse_item(around, tokens, p);
     let start = Start {
         has_var,
         as_place,

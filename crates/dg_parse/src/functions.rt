@@ -8,7 +8,7 @@ ghost use Rattle.dg_parse.specs.Sizes.{AreFew};
 use crate::literals::{lit_at, lits_at, uids_at};
 use crate::names::{edge_at, pred_at, val_at};
 use crate::tokens::{function_at, regex_at};
-use crate::words::{FuncWord, Words};
+use crate::words::FuncWord;
 use crate::{CmpOp, QFunc, QOf};
 use dg_text::choices::next_is_word;
 use dg_text::passed::{Passed, mark_at, quoted_at, refuse, word_at};
@@ -197,7 +197,6 @@ fn is_uid_in(word: FuncWord) -> bool
 #[tactic(auto, unfolding(crate::specs::Functions::func))]
 pub fn func_at(
     alloc: Global,
-    words: &Words,
     root: bool,
     tokens: &[Piece],
     p: Passed,
@@ -206,7 +205,7 @@ pub fn func_at(
     ensures { Gives (λ f. f) (toks tokens.now) result (spec.func root (left_of (toks tokens.now) p)) }
 {
     let place = left(tokens, p.at);
-    let (word, p) = function_at(words, tokens, p)?;
+    let (word, p) = function_at(tokens, p)?;
     let p = refuse(p, place, root && is_uid_in(word));
     let (_, p) = mark_at(tokens, p, b'(')?;
     let (func, p) = arguments_of_at(alloc, word, tokens, p)?;

@@ -10,7 +10,6 @@ use crate::keys::{key_of_agg, key_of_count, key_of_val};
 use crate::listed::Fields;
 use crate::names::{edge_at, round_name_at, val_at};
 use crate::tokens::aggregate_at;
-use crate::words::Words;
 use dg_text::choices::next_is_word;
 use dg_text::passed::{Passed, mark_at, refuse, word_at};
 use dg_text::texts::owned;
@@ -147,7 +146,6 @@ pub fn val_item_at(
 #[tactic(auto, unfolding(crate::specs::Fields::agg_item))]
 pub fn agg_item_at(
     alloc: Global,
-    words: &Words,
     s: Start,
     before: &Fields,
     tokens: &[Piece],
@@ -155,7 +153,7 @@ pub fn agg_item_at(
 ) -> Result<(QItem, Passed), ReadError>
     ensures { Gives (λ x. x) (toks tokens.now) result (spec.agg_item s before.now (left_of (toks tokens.now) p)) }
 {
-    let (op, p) = aggregate_at(words, tokens, p)?;
+    let (op, p) = aggregate_at(tokens, p)?;
     let (_, p) = mark_at(tokens, p, b'(')?;
     let (var, p) = val_at(alloc, tokens, p)?;
     let (_, p) = mark_at(tokens, p, b')')?;

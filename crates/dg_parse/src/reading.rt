@@ -12,7 +12,6 @@ ghost use Rattle.dg_parse.specs.Whole.{outcome, said, by_tokens, query_of, upser
 
 use crate::blocks::query_at;
 use crate::upserts::upsert_at;
-use crate::words::Words;
 use crate::{DqlFault, Query, Upsert};
 use dg_text::brackets::too_deep;
 use dg_text::passed::Passed;
@@ -65,7 +64,7 @@ fn query_pieces(alloc: Global, tokens: &[Piece], end: usize) -> Result<Query, Dq
         }),
         None => {
             let start = Passed { at: 0, refused: 0 };
-            let read = query_at(alloc, &Words::new(), tokens, start);
+            let read = query_at(alloc, tokens, start);
             outcome_of(read, tokens, end)
         }
     }
@@ -114,7 +113,7 @@ fn upsert_pieces(alloc: Global, tokens: &[Piece], end: usize) -> Result<Upsert, 
         }),
         None => {
             let start = Passed { at: 0, refused: 0 };
-            let read = upsert_at(alloc, &Words::new(), tokens, start);
+            let read = upsert_at(alloc, tokens, start);
             outcome_of(read, tokens, end)
         }
     }

@@ -10,7 +10,9 @@ ghost use Rattle.dg_text.specs.Tokens.{tok, toks, is_int};
 ghost use Rattle.dg_parse.specs.Sizes.{AreFew};
 ghost use Rattle.dg_parse.specs.Words.{function_meant, comparison_meant, directive_meant, argument_meant, aggregate_meant, number_meant, node_meant, truth_meant, literal_meant};
 
-use crate::words::{ArgWord, DirWord, FuncWord, Words};
+use crate::words::{
+    ArgWord, DirWord, FuncWord, aggregate_of, argument_of, comparison_of, directive_of, function_of,
+};
 use crate::{AggOp, CmpOp, UidArg};
 use dg_text::kinds::{is_a_name, is_a_uid, is_a_word, is_an_int};
 use dg_text::numbers::{int_of, uid_said};
@@ -22,58 +24,38 @@ use dg_values::Str;
 use std::alloc::Global;
 
 /// The word of a function.
-pub fn function_at(
-    words: &Words,
-    tokens: &[Piece],
-    p: Passed,
-) -> Result<(FuncWord, Passed), ReadError>
+pub fn function_at(tokens: &[Piece], p: Passed) -> Result<(FuncWord, Passed), ReadError>
     ensures { Gives (λ x. x) (toks tokens.now) result (part (one_as function_meant) (left_of (toks tokens.now) p)) }
 {
-    lifted(p, one_at(tokens, p.at, |t| words.function_of(t)))
+    lifted(p, one_at(tokens, p.at, |t| function_of(t)))
 }
 
 /// The word of a comparison.
-pub fn comparison_word_at(
-    words: &Words,
-    tokens: &[Piece],
-    p: Passed,
-) -> Result<(CmpOp, Passed), ReadError>
+pub fn comparison_word_at(tokens: &[Piece], p: Passed) -> Result<(CmpOp, Passed), ReadError>
     ensures { Gives (λ x. x) (toks tokens.now) result (part (one_as comparison_meant) (left_of (toks tokens.now) p)) }
 {
-    lifted(p, one_at(tokens, p.at, |t| words.comparison_of(t)))
+    lifted(p, one_at(tokens, p.at, |t| comparison_of(t)))
 }
 
 /// The word of a directive.
-pub fn directive_at(
-    words: &Words,
-    tokens: &[Piece],
-    p: Passed,
-) -> Result<(DirWord, Passed), ReadError>
+pub fn directive_at(tokens: &[Piece], p: Passed) -> Result<(DirWord, Passed), ReadError>
     ensures { Gives (λ x. x) (toks tokens.now) result (part (one_as directive_meant) (left_of (toks tokens.now) p)) }
 {
-    lifted(p, one_at(tokens, p.at, |t| words.directive_of(t)))
+    lifted(p, one_at(tokens, p.at, |t| directive_of(t)))
 }
 
 /// The word of an argument.
-pub fn argument_at(
-    words: &Words,
-    tokens: &[Piece],
-    p: Passed,
-) -> Result<(ArgWord, Passed), ReadError>
+pub fn argument_at(tokens: &[Piece], p: Passed) -> Result<(ArgWord, Passed), ReadError>
     ensures { Gives (λ x. x) (toks tokens.now) result (part (one_as argument_meant) (left_of (toks tokens.now) p)) }
 {
-    lifted(p, one_at(tokens, p.at, |t| words.argument_of(t)))
+    lifted(p, one_at(tokens, p.at, |t| argument_of(t)))
 }
 
 /// The word of an aggregate.
-pub fn aggregate_at(
-    words: &Words,
-    tokens: &[Piece],
-    p: Passed,
-) -> Result<(AggOp, Passed), ReadError>
+pub fn aggregate_at(tokens: &[Piece], p: Passed) -> Result<(AggOp, Passed), ReadError>
     ensures { Gives (λ x. x) (toks tokens.now) result (part (one_as aggregate_meant) (left_of (toks tokens.now) p)) }
 {
-    lifted(p, one_at(tokens, p.at, |t| words.aggregate_of(t)))
+    lifted(p, one_at(tokens, p.at, |t| aggregate_of(t)))
 }
 
 // The number of an Int; 0 where it is no number of 64 bits.

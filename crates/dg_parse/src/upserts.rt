@@ -9,7 +9,6 @@ ghost use Rattle.dg_parse.specs.Upsert as spec;
 
 use crate::blocks::braced_blocks_at;
 use crate::conditions::condition_at;
-use crate::words::Words;
 use crate::{UCond, UMut, Upsert};
 use dg_nquad::grammar::groups_at;
 use dg_nquad::{Mutation, Statement};
@@ -45,7 +44,6 @@ fn if_word_at(tokens: &[Piece], p: Passed) -> Result<((), Passed), ReadError>
 #[tactic(auto, unfolding(crate::specs::Upsert::if_part))]
 fn if_part_at(
     alloc: Global,
-    words: &Words,
     tokens: &[Piece],
     p: Passed,
 ) -> Result<(Option<UCond>, Passed), ReadError>
@@ -54,7 +52,7 @@ fn if_part_at(
 {
     let (_, p) = if_word_at(tokens, p)?;
     let (_, p) = mark_at(tokens, p, b'(')?;
-    let (c, p) = condition_at(alloc, words, 33, tokens, p)?;
+    let (c, p) = condition_at(alloc, 33, tokens, p)?;
     let (_, p) = mark_at(tokens, p, b')')?;
     Ok((Some(c), p))
 }
@@ -62,7 +60,6 @@ fn if_part_at(
 // A condition, where `@if` comes next.
 fn any_if_at(
     alloc: Global,
-    words: &Words,
     tokens: &[Piece],
     p: Passed,
 ) -> Result<(Option<UCond>, Passed), ReadError>
@@ -70,7 +67,7 @@ fn any_if_at(
     ensures { Gives (λ x. x) (toks tokens.now) result (optional (next (spec.is_at_word (codes "@if"))) spec.if_part None (left_of (toks tokens.now) p)) }
 {
     if if_begins(tokens, p.at) {
-        if_part_at(alloc, words, tokens, p)
+        if_part_at(alloc, tokens, p)
     } else {
         Ok((None, p))
     }
@@ -92,7 +89,6 @@ fn statements_at(
 #[tactic(auto, unfolding(crate::specs::Upsert::mut_of))]
 fn mut_at(
     alloc: Global,
-    words: &Words,
     mut before: List<UMut>,
     tokens: &[Piece],
     p: Passed,
@@ -101,7 +97,7 @@ fn mut_at(
     ensures { Gives (λ x. x) (toks tokens.now) result (spec.mut_of before (left_of (toks tokens.now) p)) }
 {
     let (_, p) = word_at(tokens, p, "mutation")?;
-    let (cond, p) = any_if_at(alloc, words, tokens, p)?;
+    let (cond, p) = any_if_at(alloc, tokens, p)?;
     let (statements, p) = statements_at(alloc, tokens, p)?;
     before.push(UMut {
         cond,
@@ -114,7 +110,6 @@ fn mut_at(
 #[tactic(auto, using(dg_text::proofs::Turns::goes_on, dg_text::proofs::Turns::ends, dg_text::proofs::Turns::stops, dg_text::proofs::Turns::is_done))]
 fn more_muts_at(
     alloc: Global,
-    words: &Words,
     before: List<UMut>,
     tokens: &[Piece],
     start: Passed,
@@ -129,7 +124,7 @@ fn more_muts_at(
         if !next_is_word(tokens, p.at, "mutation") {
             return Ok((all, p));
         }
-        let (more, after) = mut_at(alloc, words, all, tokens, p)?;
+        let (more, after) = mut_at(alloc, all, tokens, p)?;
         all = more;
         p = after;
     }
@@ -138,35 +133,25 @@ fn more_muts_at(
 
 // One mutation or more.
 #[tactic(auto, unfolding(crate::specs::Upsert::muts))]
-fn muts_at(
-    alloc: Global,
-    words: &Words,
-    tokens: &[Piece],
-    p: Passed,
-) -> Result<(List<UMut>, Passed), ReadError>
+fn muts_at(alloc: Global, tokens: &[Piece], p: Passed) -> Result<(List<UMut>, Passed), ReadError>
     requires { AreFew (toks tokens.now) }
     ensures { Gives (λ x. x) (toks tokens.now) result (spec.muts (left_of (toks tokens.now) p)) }
 {
-    let (first, p) = mut_at(alloc, words, List::new(alloc), tokens, p)?;
-    more_muts_at(alloc, words, first, tokens, p)
+    let (first, p) = mut_at(alloc, List::new(alloc), tokens, p)?;
+    more_muts_at(alloc, first, tokens, p)
 }
 
 /// An upsert block.
 #[tactic(auto, unfolding(crate::specs::Upsert::upsert))]
-pub fn upsert_at(
-    alloc: Global,
-    words: &Words,
-    tokens: &[Piece],
-    p: Passed,
-) -> Result<(Upsert, Passed), ReadError>
+pub fn upsert_at(alloc: Global, tokens: &[Piece], p: Passed) -> Result<(Upsert, Passed), ReadError>
     requires { AreFew (toks tokens.now) }
     ensures { Gives (λ x. x) (toks tokens.now) result (spec.upsert (left_of (toks tokens.now) p)) }
 {
     let (_, p) = word_at(tokens, p, "upsert")?;
     let (_, p) = mark_at(tokens, p, b'{')?;
     let (_, p) = word_at(tokens, p, "query")?;
-    let (query, p) = braced_blocks_at(alloc, words, tokens, p)?;
-    let (muts, p) = muts_at(alloc, words, tokens, p)?;
+    let (query, p) = braced_blocks_at(alloc, tokens, p)?;
+    let (muts, p) = muts_at(alloc, tokens, p)?;
     let (_, p) = mark_at(tokens, p, b'}')?;
     Ok((Upsert { query, muts }, p))
 }
