@@ -1,4 +1,4 @@
--- What `query` does. Queries of one level are built.
+-- What `query` does. Queries without variables, aggregates, `@cascade`, `@normalize` and `@recurse` are built.
 use Rattle.std.specs.Prelude.{◌≡◌, ℕ, nat_le, ◌==◌, if◌then◌else◌, Bool, true, false, Option, Some, None, List, length, Result, Ok, Err}
 use Rattle.std.specs.Str.Lossy.{utf8_valid_len}
 use Rattle.dg_schema.specs.declared.definition.PredDef.{PredDef}
@@ -13,6 +13,8 @@ use Rattle.dg_check.specs.declared.fault.CheckFault.TheVariants as faults
 use Rattle.dg_check.specs.declared.patterns.Refusal.{Refusal as BadPattern}
 use Rattle.dg_check.specs.Faults.{fault_of}
 use Rattle.dg_check.specs.Outcomes.{IsQueryOutcome}
+use Rattle.dg_level.specs.Forms.{is_built}
+use Rattle.dg_level.specs.Blocks.{answer_of}
 use Rattle.dg_wire.specs.declared.refusal.Refusal.{Refusal}
 use Rattle.dg_wire.specs.declared.refusal.Refusal.TheVariants as refusals
 use Rattle.dg_wire.specs.declared.reply.Reply.{Reply}
@@ -21,8 +23,6 @@ use Rattle.dg_node.specs.Graphs.{graph_at}
 use Rattle.dg_node.specs.Schemas.{schema_at}
 use Rattle.dg_node.specs.Machine.{Machine, Session, session_of}
 use Rattle.dg_node.specs.Replying.{refused, IsUnbuilt}
-use Rattle.dg_node.specs.Flat.{is_flat}
-use Rattle.dg_node.specs.FlatAnswers.{flat_answer}
 
 -- the most bytes that the text of an answer may have
 abbrev pub ANSWER_LIMIT : ℕ
@@ -45,7 +45,7 @@ refusal_of_check faults.OutOfMemory = refusals.Memory
 
 -- what a query is answered over a graph and its schema, or the fault that was found in it
 abbrev pub answer_or_fault : Machine → ℕ → List PredDef → List Triple → Query → Option CheckFault → Reply × Machine
-answer_or_fault machine sid schema graph query None = answered machine sid (answer_text (flat_answer schema graph query))
+answer_or_fault machine sid schema graph query None = answered machine sid (answer_text (answer_of schema graph query))
 answer_or_fault machine sid schema graph query (Some fault) = refused machine (refusal_of_check fault)
 
 -- what the checks find in a query, where these patterns were refused
@@ -53,7 +53,7 @@ abbrev pub IsFound : List PredDef → List BadPattern → Query → Option Check
 IsFound schema list query None = fault_of schema query ≡ None
 IsFound schema list query (Some fault) = IsQueryOutcome schema query list (Err fault)
 
--- a query of one level is checked under the schema, and answered over the graph
+-- a query that is built is checked under the schema, and answered over the graph
 pub record QueriesBy (list : List BadPattern) (old : Machine) (sid : ℕ) (schema : List PredDef) (graph : List Triple) (query : Query) (reply : Reply) (new : Machine) : Type 0 where
   pub fault : Option CheckFault
   pub found : IsFound schema list query fault
@@ -66,7 +66,7 @@ QueriesForm list old sid schema graph query false reply new = IsUnbuilt old repl
 
 -- what is read of a text: a query, or the place of its fault
 abbrev pub QueriesAs : List BadPattern → Machine → ℕ → List PredDef → List Triple → Result Query DqlFault → Reply → Machine → Type 0
-QueriesAs list old sid schema graph (Ok query) reply new = QueriesForm list old sid schema graph query (is_flat query) reply new
+QueriesAs list old sid schema graph (Ok query) reply new = QueriesForm list old sid schema graph query (is_built query) reply new
 QueriesAs list old sid schema graph (Err (texts.BadToken offset)) reply new = refused old (refusals.BadToken offset) ≡ (reply, new)
 QueriesAs list old sid schema graph (Err (texts.TooDeep offset)) reply new = refused old (refusals.TooDeep offset) ≡ (reply, new)
 QueriesAs list old sid schema graph (Err (texts.BadSyntax offset)) reply new = refused old (refusals.BadSyntax offset) ≡ (reply, new)

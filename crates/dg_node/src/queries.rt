@@ -6,18 +6,18 @@ ghost use Rattle.dg_check.specs.declared.fault.CheckFault.TheVariants as faults;
 ghost use Rattle.dg_graph.specs.Graphs.{IsLawful};
 ghost use Rattle.dg_parse.specs.Whole.{query_of};
 ghost use Rattle.dg_txn.specs.Own.{graph};
-ghost use Rattle.dg_node.specs.Flat.{is_flat};
+ghost use Rattle.dg_level.specs.Forms.{is_built};
 ghost use Rattle.dg_node.specs.Machine.{Machine};
 ghost use Rattle.dg_node.specs.Queries.{Queries, QueriesAs, QueriesBy, answer_or_fault, refusal_of_check};
 ghost use Rattle.dg_node.specs.Sessions.{IsSession, Sees};
 ghost use Rattle.dg_zero.specs.Legal.{IsLegal};
 ghost use Rattle.dg_zero.specs.States.{Zero};
 
-use crate::flat::{flat_answer, is_flat};
 use crate::step::unbuilt;
 use crate::transactions::no_session;
 use dg_check::{CheckFault, Patterns, Plan, check};
 use dg_graph::Snapshot;
+use dg_level::{is_built, run_plan};
 use dg_parse::{DqlFault, Query, parse};
 use dg_tree::TreeFault;
 use dg_txn::Txn;
@@ -31,7 +31,7 @@ use std::sync::ledger::{Blank, Ledger};
 /// Answers a query as a session sees the graph. Nothing changes, but that the maker's list of refused patterns may grow.
 ///
 /// `NoSession` comes where the session has no transaction; then `BadToken`, `TooDeep` and `BadSyntax` at a fault of the text;
-/// then `Unbuilt` where the query has another form than one level; then what the checks find; then `AnswerTooLarge`. The
+/// then `Unbuilt` where the query has another form than those that are built (`is_built`); then what the checks find; then `AnswerTooLarge`. The
 /// error is want of memory.
 pub fn query<P: Patterns>(
     alloc: Global,
@@ -68,7 +68,7 @@ fn query_text<P: Patterns>(
     ensures grows { IsFrontOf (P.refused patterns.old) (P.refused patterns.new) }
 {
     match parse(alloc, text) {
-        Ok(query) if is_flat(&query) => query_flat(alloc, txn, sid, query, patterns),
+        Ok(query) if is_built(&query) => query_built(alloc, txn, sid, query, patterns),
         Ok(_) => Ok(unbuilt()),
         Err(DqlFault::BadToken { offset }) => Ok(Reply::Refused(Refusal::BadToken {
             offset: u64::from(offset),
@@ -83,15 +83,15 @@ fn query_text<P: Patterns>(
     }
 }
 
-// Answers a query of one level, or says what is wrong with it.
-fn query_flat<P: Patterns>(
+// Answers a query that is built, or says what is wrong with it.
+fn query_built<P: Patterns>(
     alloc: Global,
     txn: &Txn,
     sid: u32,
     query: Query,
     patterns: &mut P,
 ) -> Mem<Reply>
-    requires flat { is_flat query ≡ true }
+    requires built { is_built query ≡ true }
     ensures answered { IsLawful txn.now.schema (graph txn.now) → (m : Machine) → IfOk result (λ reply. QueriesBy (P.refused patterns.new) m sid txn.now.schema (graph txn.now) query reply m) }
     ensures grows { IsFrontOf (P.refused patterns.old) (P.refused patterns.new) }
 {
@@ -124,11 +124,11 @@ fn answer<L: Ledger>(alloc: Global, txn: &Txn, sid: u32, plan: &Plan, blank: Bla
     requires name { blank.name ≡ L.name }
     requires parts { blank.parts ≡ L.parts }
     requires some { 0 < blank.parts }
-    requires flat { is_flat plan.now.query ≡ true }
+    requires built { is_built plan.now.query ≡ true }
     requires plan { IsPlanOf txn.now.schema plan.now.query plan.now }
     ensures { IsLawful txn.now.schema (graph txn.now) → (m : Machine) → IfOk result (λ reply. answer_or_fault m sid txn.now.schema (graph txn.now) plan.now.query None ≡ (reply, m)) }
 {
-    match flat_answer(alloc, txn, plan, &mut Steps::<L>::new(blank)) {
+    match run_plan(alloc, txn, plan, &mut Steps::<L>::new(blank)) {
         Ok(text) => Ok(Reply::Query {
             sid,
             body: List::from_vec(text.into_bytes()),

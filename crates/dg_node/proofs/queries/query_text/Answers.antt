@@ -1,9 +1,9 @@
 use Rattle.std.proofs.Common.{sym}
 use Rattle.dg_parse.specs.Whole.{query_of}
 use Rattle.dg_txn.specs.Own.{graph}
-use Rattle.dg_node.proofs.Seeing.{flat_said}
+use Rattle.dg_node.proofs.Seeing.{built_said}
 use Rattle.dg_node.proofs.queries.query_text.Goals as goal
 
 pub returns-in-Ok-clause-answered : goal.returns-in-Ok-clause-answered
 returns-in-Ok-clause-answered g c = λ lawful m.
-    flat_said _ m c.args.sid c.args.txn.now.schema (graph c.args.txn.now) c.query_flat.result c.in-Ok.query (query_of c.args.text.now) c.in-Ok.ensures (sym c.if-is_flat.ensures) (c.query_flat.ensures.answered lawful m)
+    built_said _ m c.args.sid c.args.txn.now.schema (graph c.args.txn.now) c.query_built.result c.in-Ok.query (query_of c.args.text.now) c.in-Ok.ensures (sym c.if-is_built.ensures) (c.query_built.ensures.answered lawful m)

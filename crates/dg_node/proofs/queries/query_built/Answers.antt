@@ -9,7 +9,7 @@ use Rattle.dg_txn.specs.Own.{graph}
 use Rattle.dg_node.specs.Machine.{Machine}
 use Rattle.dg_node.specs.Queries.{answer_or_fault}
 use Rattle.dg_node.proofs.Seeing.{clean_answered, fault_answered, found_fault}
-use Rattle.dg_node.proofs.queries.query_flat.Goals as goal
+use Rattle.dg_node.proofs.queries.query_built.Goals as goal
 
 pub returns-in-Ok-clause-answered : goal.returns-in-Ok-clause-answered
 returns-in-Ok-clause-answered g c = λ lawful m.
