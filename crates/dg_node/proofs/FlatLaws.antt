@@ -116,26 +116,6 @@ module _ (schema : List PredDef) (graph : List Triple) (nodes : List ℕ) (block
     pub key_passes : limit < length keyed → limit < length (out ++ field_text (nodes_shown schema graph nodes block))
     key_passes above = bracket_passes (omega (arith, above, length-append keyed (codes "[")))
 
-  module _ (wrote : Bool) (out : List ℕ) where
-    pub hidden : is_hidden block ≡ true → out ≡ out ++ listed (codes "") wrote (block_parts schema graph nodes block)
-    hidden it = rw it (sym (append-nil out))
-
-    pub hidden_parts : is_hidden block ≡ true → wrote ≡ has_parts wrote (block_parts schema graph nodes block)
-    hidden_parts it = rw it refl
-
-    pub block_added : is_hidden block ≡ false → (out ++ mark_before (codes "") wrote) ++ field_text (nodes_shown schema graph nodes block) ≡ out ++ listed (codes "") wrote (block_parts schema graph nodes block)
-    block_added it = rw it (append_assoc out (mark_before (codes "") wrote) _ ∙ ap (λ l. out ++ (mark_before (codes "") wrote ++ l)) (sym (append-nil (field_text (nodes_shown schema graph nodes block)))))
-
-    pub block_some : is_hidden block ≡ false → true ≡ has_parts wrote (block_parts schema graph nodes block)
-    block_some it = rw it refl
-
--- ---- blocks
-
--- the first block, and those behind it
-pub one_block : (schema : List PredDef) (graph : List Triple) (block : QBlock) (blocks : List QBlock) (kept : Parts) (more : List Parts)
-    → planned_parts schema graph (block ∷ blocks) (kept ∷ more) ≡ block_parts schema graph (planned_nodes graph kept) block ++ planned_parts schema graph blocks more
-one_block schema graph block blocks kept more = map_behind field_text (block_shown schema graph (planned_nodes graph kept) block) (planned_answer schema graph blocks more)
-
 -- ---- the whole
 
 module _ (fields : List Field) (begun written : List ℕ) (beginning : begun ≡ codes "{\"data\":{") (inside : written ≡ begun ++ listed (codes "") false (map field_text fields)) where

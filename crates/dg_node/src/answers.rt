@@ -1,5 +1,5 @@
 // What is shown of a predicate of a node.
-ghost use Rattle.std.specs.Prelude.{◌≡◌, IfOk, map, flat_map, option_copied, option_to_list};
+ghost use Rattle.std.specs.Prelude.{◌≡◌, true, false, IfOk, map, flat_map, option_copied, option_to_list};
 ghost use Rattle.dg_values.specs.Printing.{time_text};
 ghost use Rattle.dg_node.specs.Answers.{value_tree, value_of, values_shown, shown};
 
@@ -29,41 +29,40 @@ fn value_tree(alloc: Global, value: Value) -> Mem<Tree>
     }
 }
 
-// The trees of values, in their order.
-fn value_trees(alloc: Global, values: Vec<Value>) -> Mem<List<Tree>>
-    ensures { IfOk result (λ trees. trees ≡ map value_tree values.items) }
+// The trees of the objects that are values, in their order.
+fn value_trees(alloc: Global, objects: Vec<Posting>) -> Mem<List<Tree>>
+    ensures { IfOk result (λ trees. trees ≡ map value_tree (flat_map value_of objects.items)) }
 {
     let mut trees = List::new(alloc);
-    for value in values {
-        trees.push(value_tree(alloc, value)?)?;
+    for object in objects {
+        if let Posting::Val(value) = object {
+            trees.push(value_tree(alloc, value)?)?;
+        }
     }
     Ok(trees)
 }
 
-// The objects that are values, in their order.
-fn values_of(alloc: Global, objects: Vec<Posting>) -> Mem<Vec<Value>>
-    ensures { IfOk result (λ values. values.items ≡ flat_map value_of objects.items) }
+// The tree of all objects that are values, in an array, if there are any.
+fn array_shown(alloc: Global, objects: Vec<Posting>) -> Mem<Option<Tree>>
+    ensures { IfOk result (λ tree. option_to_list tree ≡ values_shown true (flat_map value_of objects.items)) }
 {
-    let mut values = Vec::new(alloc);
-    for object in objects {
-        if let Posting::Val(value) = object {
-            values.push(value)?;
-        }
+    let trees = value_trees(alloc, objects)?;
+    if trees.is_empty() {
+        return Ok(None);
     }
-    Ok(values)
+    Ok(Some(Tree::Array(trees)))
 }
 
-// The tree of values, if there are any: of a list all in an array, else the first.
-fn values_shown(alloc: Global, list: bool, values: Vec<Value>) -> Mem<Option<Tree>>
-    ensures { IfOk result (λ tree. option_to_list tree ≡ values_shown list values.items) }
+// The tree of the first object that is a value, if there is one.
+fn first_shown(alloc: Global, objects: Vec<Posting>) -> Mem<Option<Tree>>
+    ensures { IfOk result (λ tree. option_to_list tree ≡ values_shown false (flat_map value_of objects.items)) }
 {
-    if list && !values.is_empty() {
-        return Ok(Some(Tree::Array(value_trees(alloc, values)?)));
+    for object in objects {
+        if let Posting::Val(value) = object {
+            return Ok(Some(value_tree(alloc, value)?));
+        }
     }
-    match values.into_iter().next() {
-        None => Ok(None),
-        Some(value) => Ok(Some(value_tree(alloc, value)?)),
-    }
+    Ok(None)
 }
 
 /// What is shown of the objects of a predicate, if anything. The error is want of memory.
@@ -76,6 +75,7 @@ pub fn shown(
 {
     match definition {
         None => Ok(None),
-        Some(definition) => values_shown(alloc, definition.list, values_of(alloc, objects)?),
+        Some(definition) if definition.list => array_shown(alloc, objects),
+        Some(_) => first_shown(alloc, objects),
     }
 }

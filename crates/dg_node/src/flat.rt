@@ -1,9 +1,9 @@
 // The answer of a flat query, written node by node.
-ghost use Rattle.std.specs.Prelude.{◌≡◌, ◌≤◌, ◌<◌, ◌++◌, true, false, length, codes, string_bytes, IfOk, OnOk, IsErrOf};
+ghost use Rattle.std.specs.Prelude.{◌≡◌, ◌≤◌, ◌<◌, ◌++◌, false, length, codes, string_bytes, IfOk, OnOk, IsErrOf};
 ghost use Rattle.dg_graph.specs.Graphs.{IsLawful};
 ghost use Rattle.dg_check.specs.Outcomes.{IsPlanOf};
 ghost use Rattle.dg_tree.specs.Texts.{field_text, answer_text};
-ghost use Rattle.dg_node.specs.Flat.{is_flat, nodes_shown, is_hidden};
+ghost use Rattle.dg_node.specs.Flat.{nodes_shown, is_hidden};
 ghost use Rattle.dg_node.specs.Listed.{listed, has_parts};
 ghost use Rattle.dg_node.specs.FlatTexts.{nodes_parts, block_parts};
 ghost use Rattle.dg_node.specs.FlatPlans.{planned_nodes, planned_answer, planned_parts};
@@ -81,9 +81,9 @@ fn push_block<S: Snapshot, L: Ledger>(
     kept: &Parts,
     reads: &mut Steps<L>,
 ) -> Result<bool, TreeFault>
-    ensures ok { OnOk result (out.new ≡ out.old ++ listed (codes "") wrote (block_parts (S.declared snap.now) (S.graph snap.now) (planned_nodes (S.graph snap.now) kept.now) block.now)) }
+    ensures ok { IsLawful (S.declared snap.now) (S.graph snap.now) → OnOk result (out.new ≡ out.old ++ listed (codes "") wrote (block_parts (S.declared snap.now) (S.graph snap.now) (planned_nodes (S.graph snap.now) kept.now) block.now)) }
     ensures wrote { IfOk result (λ w. w ≡ has_parts wrote (block_parts (S.declared snap.now) (S.graph snap.now) (planned_nodes (S.graph snap.now) kept.now) block.now)) }
-    ensures too_large { IsErrOf result TreeFault.TooLarge
+    ensures too_large { IsLawful (S.declared snap.now) (S.graph snap.now) → IsErrOf result TreeFault.TooLarge
         → 16777216 < length (out.old ++ listed (codes "") wrote (block_parts (S.declared snap.now) (S.graph snap.now) (planned_nodes (S.graph snap.now) kept.now) block.now)) }
 {
     if is_hidden(block) {
@@ -105,8 +105,8 @@ fn push_blocks<S: Snapshot, L: Ledger>(
     reads: &mut Steps<L>,
 ) -> Result<(), TreeFault>
     requires alike { length blocks.now ≡ length kept.now }
-    ensures ok { OnOk result (out.new ≡ out.old ++ listed (codes "") false (planned_parts (S.declared snap.now) (S.graph snap.now) blocks.now kept.now)) }
-    ensures too_large { IsErrOf result TreeFault.TooLarge
+    ensures ok { IsLawful (S.declared snap.now) (S.graph snap.now) → OnOk result (out.new ≡ out.old ++ listed (codes "") false (planned_parts (S.declared snap.now) (S.graph snap.now) blocks.now kept.now)) }
+    ensures too_large { IsLawful (S.declared snap.now) (S.graph snap.now) → IsErrOf result TreeFault.TooLarge
         → 16777216 < length (out.old ++ listed (codes "") false (planned_parts (S.declared snap.now) (S.graph snap.now) blocks.now kept.now)) }
 {
     let mut wrote = false;
@@ -125,9 +125,9 @@ fn planned_answer<S: Snapshot, L: Ledger>(
     reads: &mut Steps<L>,
 ) -> Result<String, TreeFault>
     requires alike { length blocks.now ≡ length kept.now }
-    ensures text { IfOk result (λ text. string_bytes text ≡ answer_text (planned_answer (S.declared snap.now) (S.graph snap.now) blocks.now kept.now)) }
+    ensures text { IsLawful (S.declared snap.now) (S.graph snap.now) → IfOk result (λ text. string_bytes text ≡ answer_text (planned_answer (S.declared snap.now) (S.graph snap.now) blocks.now kept.now)) }
     ensures within { IfOk result (λ text. length (string_bytes text) ≤ 16777216) }
-    ensures too_large { IsErrOf result TreeFault.TooLarge → 16777216 < length (answer_text (planned_answer (S.declared snap.now) (S.graph snap.now) blocks.now kept.now)) }
+    ensures too_large { IsLawful (S.declared snap.now) (S.graph snap.now) → IsErrOf result TreeFault.TooLarge → 16777216 < length (answer_text (planned_answer (S.declared snap.now) (S.graph snap.now) blocks.now kept.now)) }
 {
     let mut out = AnswerText::new(alloc)?;
     out.mark("{\"data\":{")?;
@@ -152,7 +152,6 @@ pub fn flat_answer<S: Snapshot, L: Ledger>(
     plan: &Plan,
     reads: &mut Steps<L>,
 ) -> Result<String, TreeFault>
-    requires flat { is_flat plan.now.query ≡ true }
     requires plan { IsPlanOf (S.declared snap.now) plan.now.query plan.now }
     ensures text { IsLawful (S.declared snap.now) (S.graph snap.now) → IfOk result (λ text. string_bytes text ≡ answer_text (flat_answer (S.declared snap.now) (S.graph snap.now) plan.now.query)) }
     ensures within { IfOk result (λ text. length (string_bytes text) ≤ 16777216) }

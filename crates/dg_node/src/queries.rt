@@ -1,12 +1,11 @@
 // What `query` does.
-ghost use Rattle.std.specs.Prelude.{◌≡◌, ◌≢◌, ◌≤◌, ◌<◌, ℕ, true, None, length, IfOk, IsOk};
+ghost use Rattle.std.specs.Prelude.{◌≡◌, ◌≢◌, ◌≤◌, ◌<◌, ℕ, None, length, IfOk, IsOk};
 ghost use Rattle.dg_check.specs.Outcomes.{IsPlanOf, IsQueryOutcome};
 ghost use Rattle.dg_check.specs.Patterns.{IsFrontOf};
 ghost use Rattle.dg_check.specs.declared.fault.CheckFault.TheVariants as faults;
 ghost use Rattle.dg_graph.specs.Graphs.{IsLawful};
 ghost use Rattle.dg_parse.specs.Whole.{query_of};
 ghost use Rattle.dg_txn.specs.Own.{graph};
-ghost use Rattle.dg_node.specs.Flat.{is_flat};
 ghost use Rattle.dg_node.specs.Machine.{Machine};
 ghost use Rattle.dg_node.specs.Queries.{Queries, QueriesAs, QueriesBy, answer_or_fault, refusal_of_check};
 ghost use Rattle.dg_node.specs.Sessions.{IsSession, Sees};
@@ -91,7 +90,6 @@ fn query_flat<P: Patterns>(
     query: Query,
     patterns: &mut P,
 ) -> Mem<Reply>
-    requires flat { is_flat query ≡ true }
     ensures answered { IsLawful txn.now.schema (graph txn.now) → (m : Machine) → IfOk result (λ reply. QueriesBy (P.refused patterns.new) m sid txn.now.schema (graph txn.now) query reply m) }
     ensures grows { IsFrontOf (P.refused patterns.old) (P.refused patterns.new) }
 {
@@ -124,7 +122,6 @@ fn answer<L: Ledger>(alloc: Global, txn: &Txn, sid: u32, plan: &Plan, blank: Bla
     requires name { blank.name ≡ L.name }
     requires parts { blank.parts ≡ L.parts }
     requires some { 0 < blank.parts }
-    requires flat { is_flat plan.now.query ≡ true }
     requires plan { IsPlanOf txn.now.schema plan.now.query plan.now }
     ensures { IsLawful txn.now.schema (graph txn.now) → (m : Machine) → IfOk result (λ reply. answer_or_fault m sid txn.now.schema (graph txn.now) plan.now.query None ≡ (reply, m)) }
 {

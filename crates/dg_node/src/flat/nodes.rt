@@ -1,6 +1,7 @@
 // The nodes of a block.
 ghost use Rattle.std.specs.Prelude.{◌≡◌, [], filter, IfOk};
 ghost use Rattle.std.specs.List.{list_all};
+ghost use Rattle.dg_graph.specs.Graphs.{IsLawful};
 ghost use Rattle.dg_funcs.specs.Truth.{passes};
 ghost use Rattle.dg_node.specs.FlatPlans.{planned_root, planned_nodes};
 
@@ -30,7 +31,7 @@ fn nodes_of_root<S: Snapshot, L: Ledger>(
     reads: &mut Steps<L>,
 ) -> Mem<Uids>
     requires { vars.now.variables ≡ [] }
-    ensures { IfOk result (λ uids. uids ≡ planned_root (S.graph snap.now) func.now) }
+    ensures { IsLawful (S.declared snap.now) (S.graph snap.now) → IfOk result (λ uids. uids ≡ planned_root (S.graph snap.now) func.now) }
 {
     match func {
         None => Ok(Uids::gathered(Vec::new(alloc))),
@@ -64,7 +65,7 @@ pub fn nodes_of<S: Snapshot, L: Ledger>(
     kept: &Parts,
     reads: &mut Steps<L>,
 ) -> Mem<Uids>
-    ensures { IfOk result (λ uids. uids ≡ planned_nodes (S.graph snap.now) kept.now) }
+    ensures { IsLawful (S.declared snap.now) (S.graph snap.now) → IfOk result (λ uids. uids ≡ planned_nodes (S.graph snap.now) kept.now) }
 {
     let vars = no_variables(alloc);
     let nodes = nodes_of_root(alloc, snap, &kept.root, &vars, reads)?;

@@ -25,7 +25,7 @@ returns-clause-text g c = λ lawful.
     let alike : planned_answer schema graph c.as_slice-blocks.result.now c.as_slice-kept.result.now ≡ flat_answer schema graph plan.query =
     (λ j. planned_answer schema graph (c.as_slice-blocks.ensures j) (c.as_slice-kept.ensures j))
     ∙ answers_alike schema ds graph lawful c.meanings.ensures.filters c.meanings.ensures.roots plan.query.blocks plan.parts c.requires.plan.parts in
-    subst (λ (fields : List Field). IfOk c.planned_answer.result (λ text. string_bytes text ≡ answer_text fields)) alike c.planned_answer.ensures.text
+    subst (λ (fields : List Field). IfOk c.planned_answer.result (λ text. string_bytes text ≡ answer_text fields)) alike (c.planned_answer.ensures.text lawful)
 
 pub returns-clause-too_large : goal.returns-clause-too_large
 returns-clause-too_large g c = λ lawful e.
@@ -36,4 +36,4 @@ returns-clause-too_large g c = λ lawful e.
     let alike : planned_answer schema graph c.as_slice-blocks.result.now c.as_slice-kept.result.now ≡ flat_answer schema graph plan.query =
     (λ j. planned_answer schema graph (c.as_slice-blocks.ensures j) (c.as_slice-kept.ensures j))
     ∙ answers_alike schema ds graph lawful c.meanings.ensures.filters c.meanings.ensures.roots plan.query.blocks plan.parts c.requires.plan.parts in
-    subst (λ (fields : List Field). 16777216 < length (answer_text fields)) alike (c.planned_answer.ensures.too_large e)
+    subst (λ (fields : List Field). 16777216 < length (answer_text fields)) alike (c.planned_answer.ensures.too_large lawful e)
