@@ -33,10 +33,6 @@ use Rattle.dg_node.proofs.Serving.{meets_by, serves_nothing, looked_serves, find
 abbrev Pair : Type 0
 Pair = Reply × Machine
 
-pub none_is : (session : Option Transaction) → is_some session ≡ false → session ≡ None
-none_is None e = refl
-none_is (Some txn) e = absurd (cc)
-
 -- a session that has a transaction already
 pub already_serves : (takes : ℕ → Bool) (author sid : ℕ) (session : Option Transaction) (z : Zero) → is_some session ≡ true → IsLegal z.groups z.history → Meets takes z z (Serves author sid session session (λ m n. ◌≡◌ {A = Pair} (begun m sid) (replies.Refused (refusals.SessionOpen sid), n)))
 already_serves takes author sid None z e legal = absurd (cc)

@@ -23,9 +23,6 @@ begin_fault h (zeros.OldCopy group until) is = is
 begin_fault h (zeros.NotMoving phase) is = is
 begin_fault h zeros.NoPredicate is = is
 
-pub lease_fault : (h : List Entry) (top count : ℕ) (f : ZeroFault) → (leased h top count ≡ None) × (f ≡ zeros.UidsSpent (next_uid h)) → IsLeaseFault h top count (cluster_fault f)
-lease_fault h top count f is = subst (λ (g : ZeroFault). IsLeaseFault h top count (cluster_fault g)) (sym is.1) (is.0, refl)
-
 pub alter_fault : (h : List Entry) (newer : List PredDef) (f : ZeroFault) → first_with_data (schema h) (world h).graph newer ≡ None → states.IsAlterFault h newer f → IsAlterFault h newer (cluster_fault f)
 alter_fault h newer zeros.OutOfMemory free is = tt
 alter_fault h newer (zeros.TimestampsSpent spent) free is = (is.0, is.1, free, is.2, is.3)

@@ -43,11 +43,6 @@ err_spared (Err x) before after request stays = leads_nowhere before after (λ m
 pub spared_by : {A E : Type 0} (r : Result A E) (before after : Held) (request q : Request) → request ≡ q → OnErr r (Leads before (λ m n. Spares q m n) after) → OnErr r (Leads before (λ m n. Spares request m n) after)
 spared_by r before after request q e leads = subst (λ (s : Request). OnErr r (Leads before (λ m n. Spares s m n) after)) (sym e) leads
 
--- the same for what is answered, if it is
-pub ok_by : {E : Type 0} (r : Result Reply E) (before after : Held) (one other : Reply → Machine → Machine → Type 0) → ((p : Reply) (m n : Machine) → one p m n → other p m n) → IfOk r (λ p. Leads before (one p) after) → IfOk r (λ p. Leads before (other p) after)
-ok_by (Ok p) before after one other f leads = leads_by before after (one p) (other p) (f p) leads
-ok_by (Err e) before after one other f leads = tt
-
 -- ---- a request, by its verb
 
 pub query_led : {E : Type 0} (list : List BadPattern) (r : Result Reply E) (engine : Held) (request : Request) (sid : ℕ) (body text : List ℕ) → request ≡ requests.Query sid body → text ≡ body → IfOk r (λ p. Leads engine (λ m n. Queries list m sid text p n) engine) → IfOk r (λ p. Leads engine (λ m n. Outcome list m request p n) engine)

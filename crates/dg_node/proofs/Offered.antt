@@ -27,19 +27,7 @@ abbrev Pair : Type 0
 Pair = Reply × Machine
 
 module _ (takes : ℕ → Bool) (author sid : ℕ) (own : takes author ≡ true) (z : Zero) (txn : Transaction) (o : IsOpen z.history author txn) (offer : Offer) (start : offer.start ≡ txn.start) (changes : offer.changes ≡ txn.own) (made : IsMadeOf txn.schema txn.base offer.changes offer.keys offer.parts) (sound : IsSound txn.schema txn.base offer.preds offer.keys offer.parts) where
-  -- it is an offer of the transaction, here and over what is met
-  here : IsOfferOf z.history txn offer
-  here = offered z.history author txn o offer start changes made sound
-
-  pub active_here : is_active_of (active z.history) offer.start author ≡ true
-  active_here = offer_active z.history author txn offer o here
-
-  pub sound_here : IsSound (schema_at z.history offer.start) (graph_at z.history offer.start []) offer.preds offer.keys offer.parts
-  sound_here = offer_sound z.history txn offer here
-
-  pub made_here : IsMadeOf (schema_at z.history offer.start) (graph_at z.history offer.start []) offer.changes offer.keys offer.parts
-  made_here = offer_made_of z.history txn offer here
-
+  -- it is an offer of the transaction over what is met
   open_there : (met : Zero) → AreOthers takes z met → IsOpen met.history author txn
   open_there met others = open_met takes author z met txn own others o
 
@@ -86,16 +74,6 @@ module _ (takes : ℕ → Bool) (author sid : ℕ) (own : takes author ≡ true)
           subst (λ (x : Option Transaction). Meets takes z w (Serves author sid (Some txn) x (λ m n. n ≡ m))) (sym new_is)
           (meets_by takes z w (CommitsAt author offer (Err fault)) (Serves author sid (Some txn) (cond (is_ended fault) None (Some txn)) (λ m n. n ≡ m)) (λ met others c. wanting_at fault met others said c.fault) m)
 
-      -- where memory was wanting, it is as it was
-      pub wanting_kept : reply_to fault ≡ None → new ≡ Some txn
-      wanting_kept said = new_is ∙ by fault said
-        where
-          by : (f : CommitFault) → reply_to f ≡ None → cond (is_ended f) None (Some txn) ≡ Some txn
-          by (Conflict key text ts) e = absurd (cc)
-          by (Moving pred) e = absurd (cc)
-          by (TimestampsSpent spent back) e = absurd (cc)
-          by (OutOfMemory back) e = refl
-
       looked : w ≡ and_then m.met author Look → IsLegal w.groups w.history → IsSession w author (Some txn)
       looked then legal = open_then m.met w author author Look txn then (λ starts. refl) legal (open_there m.met m.others)
 
@@ -116,7 +94,3 @@ module _ (takes : ℕ → Bool) (author sid : ℕ) (own : takes author ≡ true)
       pub wanting_by : {E : Type 0} (r : Result Reply E) (old : Option Transaction) → old ≡ Some txn → OnErr r (reply_to fault ≡ None) → OnErr r (Meets takes z w (Serves author sid old new (λ m n. n ≡ m)))
       wanting_by (Ok reply) old old_is said = tt
       wanting_by (Err x) old old_is said = subst (λ (y : Option Transaction). Meets takes z w (Serves author sid y new (λ m n. n ≡ m))) (sym old_is) (wanting_meets said)
-
-      pub kept_by : {E : Type 0} (r : Result Reply E) (old : Option Transaction) → old ≡ Some txn → OnErr r (reply_to fault ≡ None) → OnErr r (new ≡ old)
-      kept_by (Ok reply) old old_is said = tt
-      kept_by (Err x) old old_is said = wanting_kept said ∙ sym old_is

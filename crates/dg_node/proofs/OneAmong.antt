@@ -1,6 +1,6 @@
 -- One element of a list, by a number that no other has.
-use Rattle.std.proofs.Common.{◌≡◌, ◌≢◌, ℕ, zero, suc, ◌+◌, ◌<◌, Bool, true, false, cond, not, List, [], ◌∷◌, ◌++◌, Some, None, length, set, refl, ap, subst, sym, ◌∙◌, arith}
-use Rattle.std.specs.Prelude.{◌==◌, map, filter, find, position, slice_get, slice_index_or, is_some}
+use Rattle.std.proofs.Common.{◌≡◌, ◌≢◌, ℕ, zero, suc, ◌+◌, ◌<◌, Bool, true, false, cond, List, [], ◌∷◌, ◌++◌, Some, None, length, set, refl, ap, subst, sym, ◌∙◌, arith}
+use Rattle.std.specs.Prelude.{◌==◌, map, position, slice_get, slice_index_or}
 use Rattle.std.specs.List.{AllByRecursion, position_from, remove}
 use Rattle.std.proofs.lemmas.Grind.{common_steps}
 use Rattle.std.proofs.lemmas.Iterator.Adapters.{position_from-zero}
@@ -18,13 +18,6 @@ pub record Around {X : Type 0} (f : X → ℕ) (n : ℕ) (xs : List X) (place : 
 
 equal_at : (a b : ℕ) → (a == b) ≡ true → a ≡ b
 equal_at a b e = grind (arith, common_steps)
-
-apart_at : (a b : ℕ) → a ≢ b → (a == b) ≡ false
-apart_at a b ne = by (a == b) refl
-  where
-    by : (v : Bool) → (a == b) ≡ v → v ≡ false
-    by true e = absurd (ne (equal_at a b e))
-    by false e = refl
 
 itself : (a : ℕ) → (a == a) ≡ true
 itself a = grind (arith, common_steps)
@@ -45,14 +38,6 @@ pub around : {X : Type 0} (f : X → ℕ) (n : ℕ) (xs : List X) (place : ℕ) 
 around f n xs place e =
     let r = around_from f n 0 xs place (sym (position_from-zero (λ x. f x == n) xs) ∙ e) in
     subst (λ (k : ℕ). Around f n xs k) (let same : r.0 ≡ place = omega (arith, r.1) in same) r.2
-
--- around any place of the list
-pub around_place : {X : Type 0} (f : X → ℕ) (xs : List X) (place : ℕ) → place < length xs → (n : ℕ) × Around f n xs place
-around_place f [] place lt = absurd (omega (arith, lt))
-around_place f (x ∷ xs) zero lt = (f x, record { before = []; it = x; after = xs; whole = refl; at = refl; is = refl })
-around_place {X} f (x ∷ xs) (suc place) lt =
-    let r = around_place f xs place (omega (arith, lt)) in
-    (r.0, record { before = x ∷ r.1.before; it = r.1.it; after = r.1.after; whole = ap (λ (l : List X). x ∷ l) r.1.whole; at = ap suc r.1.at; is = r.1.is })
 
 -- what the list is without the element, with another, and at its place
 pub removed_at : {X : Type 0} (before after : List X) (x : X) → remove (before ++ x ∷ after) (length before) ≡ before ++ after
@@ -75,14 +60,8 @@ module _ {X : Type 0} (f : X → ℕ) (n : ℕ) (xs : List X) (place : ℕ) (a :
   both : (F : List X → ℕ → Type 0) → F (a.before ++ a.it ∷ a.after) (length a.before) → F xs place
   both F p = subst (λ (k : ℕ). F xs k) a.at (subst (λ (l : List X). F l (length a.before)) (sym a.whole) p)
 
-  pub removed_is : remove xs place ≡ a.before ++ a.after
-  removed_is = both (λ l k. remove l k ≡ a.before ++ a.after) (removed_at a.before a.after a.it)
-
   pub set_is : (y : X) → set xs place y ≡ a.before ++ y ∷ a.after
   set_is y = both (λ l k. set l k y ≡ a.before ++ y ∷ a.after) (set_at a.before a.after a.it y)
-
-  pub get_is : slice_get xs place ≡ Some a.it
-  get_is = both (λ l k. slice_get l k ≡ Some a.it) (get_at a.before a.after a.it)
 
   pub it_is : (d : X) → d ≡ slice_index_or xs place d → d ≡ a.it
   it_is d e = e ∙ both (λ l k. slice_index_or l k d ≡ a.it) (index_at a.before a.after a.it d)
@@ -113,38 +92,8 @@ apart_with f (w ∷ before) after x y e a =
     let r = all_around (λ z. f z ≢ f w) before after x a.0 in
     (all_joined (λ z. f z ≢ f w) before (y ∷ after) r.0 (subst (λ (n : ℕ). n ≢ f w) (sym e) r.1, r.2), apart_with f before after x y e a.1)
 
--- filters by the number, over what the elements are made to
+-- where no place is found, none has the number
 module _ {X Y : Type 0} (g : X → Y) (f : Y → ℕ) where
-  keep_all : (n : ℕ) (xs : List X) → AllByRecursion (λ x. f (g x) ≢ n) xs → filter (λ y. not (f y == n)) (map g xs) ≡ map g xs
-  keep_all n [] a = refl
-  keep_all n (x ∷ xs) a = rw (apart_at (f (g x)) n a.0) (ap (λ (l : List Y). g x ∷ l) (keep_all n xs a.1))
-
-  pub without : (before after : List X) (x : X) → AreApart (λ z. f (g z)) (before ++ x ∷ after) → filter (λ y. not (f y == f (g x))) (map g (before ++ x ∷ after)) ≡ map g (before ++ after)
-  without [] after x a = rw (itself (f (g x))) (keep_all (f (g x)) after a.0)
-  without (z ∷ before) after x a =
-      let r = all_around (λ w. f (g w) ≢ f (g z)) before after x a.0 in
-      let other : (f (g z) == f (g x)) ≡ false = apart_at (f (g z)) (f (g x)) (λ e. r.1 (sym e)) in
-      rw other (ap (λ (l : List Y). g z ∷ l) (without before after x a.1))
-
-  pub found : (before after : List X) (x : X) → AreApart (λ z. f (g z)) (before ++ x ∷ after) → find (λ y. f y == f (g x)) (map g (before ++ x ∷ after)) ≡ Some (g x)
-  found [] after x a = rw (itself (f (g x))) refl
-  found (z ∷ before) after x a =
-      let r = all_around (λ w. f (g w) ≢ f (g z)) before after x a.0 in
-      let other : (f (g z) == f (g x)) ≡ false = apart_at (f (g z)) (f (g x)) (λ e. r.1 (sym e)) in
-      rw other (found before after x a.1)
-
-  some_from : (n low : ℕ) (xs : List X) (place : ℕ) → position_from (λ x. f (g x) == n) low xs ≡ Some place → is_some (find (λ y. f y == n) (map g xs)) ≡ true
-  some_from n low [] place e = absurd (cc)
-  some_from n low (x ∷ xs) place e = by (f (g x) == n) e (λ h. some_from n (low + 1) xs place h)
-    where
-      by : (v : Bool) → cond v (Some low) (position_from (λ y. f (g y) == n) (low + 1) xs) ≡ Some place → (position_from (λ y. f (g y) == n) (low + 1) xs ≡ Some place → is_some (find (λ y. f y == n) (map g xs)) ≡ true) → is_some (cond v (Some (g x)) (find (λ y. f y == n) (map g xs))) ≡ true
-      by true h more = refl
-      by false h more = more h
-
-  -- where there is a place, something is found
-  pub some_found : (n : ℕ) (xs : List X) (place : ℕ) → position (λ x. f (g x) == n) xs ≡ Some place → is_some (find (λ y. f y == n) (map g xs)) ≡ true
-  some_found n xs place e = some_from n 0 xs place (sym (position_from-zero (λ x. f (g x) == n) xs) ∙ e)
-
   not_found_from : (n low : ℕ) (xs : List X) → position_from (λ x. f (g x) == n) low xs ≡ None → AllByRecursion (λ x. f (g x) ≢ n) xs
   not_found_from n low [] e = tt
   not_found_from n low (x ∷ xs) e = by (f (g x) == n) refl e (λ h. not_found_from n (low + 1) xs h)
@@ -155,22 +104,6 @@ module _ {X Y : Type 0} (g : X → Y) (f : Y → ℕ) where
 
   pub none_has : (n : ℕ) (xs : List X) → position (λ x. f (g x) == n) xs ≡ None → AllByRecursion (λ x. f (g x) ≢ n) xs
   none_has n xs e = not_found_from n 0 xs (sym (position_from-zero (λ x. f (g x) == n) xs) ∙ e)
-
-  pub not_found : (n : ℕ) (xs : List X) → AllByRecursion (λ x. f (g x) ≢ n) xs → find (λ y. f y == n) (map g xs) ≡ None
-  not_found n [] a = refl
-  not_found n (x ∷ xs) a = rw (apart_at (f (g x)) n a.0) (not_found n xs a.1)
-
-  -- one element is changed, by its number
-  unchanged : (n : ℕ) (h : Y → Y) (xs : List X) → AllByRecursion (λ x. f (g x) ≢ n) xs → map (λ y. cond (f y == n) (h y) y) (map g xs) ≡ map g xs
-  unchanged n h [] a = refl
-  unchanged n h (x ∷ xs) a = rw (apart_at (f (g x)) n a.0) (ap (λ (l : List Y). g x ∷ l) (unchanged n h xs a.1))
-
-  pub changed : (h : Y → Y) (before after : List X) (x z : X) → h (g x) ≡ g z → AreApart (λ w. f (g w)) (before ++ x ∷ after) → map (λ y. cond (f y == f (g x)) (h y) y) (map g (before ++ x ∷ after)) ≡ map g (before ++ z ∷ after)
-  changed h [] after x z e a = rw (itself (f (g x)), unchanged (f (g x)) h after a.0) (ap (λ (y : Y). y ∷ map g after) e)
-  changed h (w ∷ before) after x z e a =
-      let r = all_around (λ v. f (g v) ≢ f (g w)) before after x a.0 in
-      let other : (f (g w) == f (g x)) ≡ false = apart_at (f (g w)) (f (g x)) (λ k. r.1 (sym k)) in
-      rw other (ap (λ (l : List Y). g w ∷ l) (changed h before after x z e a.1))
 
 -- numbers that ascend are apart
 all_apart : {X : Type 0} (f : X → ℕ) (low : ℕ) (x : X) (xs : List X) → f x < low + 1 → oracle.Ascends low (map f xs) → AllByRecursion (λ y. f y ≢ f x) xs

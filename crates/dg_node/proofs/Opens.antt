@@ -59,10 +59,6 @@ open_met takes author before met txn own others is =
     (open_longer met.groups before.history others.entries author txn legal
     (starts_stay met.groups before.history others.entries author txn.start legal (not_own takes author others.entries own others.others) is.active) is)
 
-pub session_met : (takes : ℕ → Bool) (author : ℕ) (before met : Zero) (session : Option Transaction) → takes author ≡ true → AreOthers takes before met → IsSession before author session → IsSession met author session
-session_met takes author before met None own others is = tt
-session_met takes author before met (Some txn) own others is = open_met takes author before met txn own others is
-
 -- an entry that leaves the active starts
 pub open_then : (z w : Zero) (by author : ℕ) (event : Event) (txn : Transaction) → w ≡ and_then z by event → ((starts : List Started) → active_after starts by event ≡ starts) → IsLegal w.groups w.history → IsOpen z.history author txn → IsOpen w.history author txn
 open_then z w by author event txn then stay legal is =

@@ -136,7 +136,6 @@ impl Engine {
         ensures answered { IfOk result (λ reply. Leads self.now (λ m n. Queries (P.refused patterns.new) m sid body.now reply n) self.now) }
         ensures grows { IsFrontOf (P.refused patterns.old) (P.refused patterns.new) }
     {
-        self.cluster.at_rest();
         match place_of(self.slots.as_slice(), sid) {
             Some(place) => query(alloc, &self.slots[place].txn, sid, body, patterns),
             None => query(alloc, &None, sid, body, patterns),

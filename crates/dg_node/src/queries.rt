@@ -1,5 +1,5 @@
 // What `query` does.
-ghost use Rattle.std.specs.Prelude.{◌≡◌, ◌≢◌, ◌≤◌, ◌<◌, ℕ, true, None, length, IfOk, IsOk};
+ghost use Rattle.std.specs.Prelude.{◌≡◌, ◌≢◌, ◌≤◌, ◌<◌, ℕ, None, length, IfOk, IsOk};
 ghost use Rattle.dg_check.specs.Outcomes.{IsPlanOf, IsQueryOutcome};
 ghost use Rattle.dg_check.specs.Patterns.{IsFrontOf};
 ghost use Rattle.dg_check.specs.declared.fault.CheckFault.TheVariants as faults;
