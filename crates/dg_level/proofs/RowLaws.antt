@@ -1,5 +1,6 @@
 -- The texts of rows, and what the rows of a level are at most together.
-use Rattle.std.proofs.Common.{◌≡◌, ℕ, zero, suc, ◌+◌, ◌<◌, ◌≤◌, List, [], ◌∷◌, ◌++◌, map, flat_map, fold, length, codes, refl, sym, ap, ◌∙◌, subst, arith, length-append, append_assoc}
+use Rattle.std.proofs.Common.{◌≡◌, ℕ, ◌+◌, ◌<◌, ◌≤◌, List, [], ◌∷◌, ◌++◌, map, flat_map, fold, length, codes, refl, sym, ap, ◌∙◌, arith, length-append, append_assoc}
+use Rattle.std.specs.Prelude.{sum_by}
 use Rattle.std.proofs.lemmas.List.{map-append}
 use Rattle.std.proofs.lemmas.List.Concat.{flat_map-append}
 use Rattle.std.proofs.lemmas.List.Sums.{sum_by-append, sum_by-cons}
@@ -12,7 +13,7 @@ use Rattle.dg_tree.specs.declared.tree.Tree.{Tree, Tree-F, fold-roll-Tree}
 use Rattle.dg_tree.specs.declared.tree.Tree.TheVariants as trees
 use Rattle.dg_tree.specs.declared.tree.Tree.TheFolds.{fold_out-Field}
 use Rattle.dg_tree.specs.declared.tree.Field.{Field}
-use Rattle.dg_tree.specs.Texts.{with_commas, array_text, object_text, key_text, text_of_tree, text_of_field, tree_text, field_text}
+use Rattle.dg_tree.specs.Texts.{with_commas, array_text, key_text, text_of_tree, text_of_field, tree_text, field_text}
 use Rattle.dg_level.specs.Rows.{total, row_text, not_empty, braced, objects_of, shown_array, array_of, with_fields}
 
 -- ---- the bytes of texts together
@@ -118,6 +119,10 @@ shown_within front rows = omega (arith, total_joined front (objects_of rows), ro
     shown [] = omega arith
     shown (item ∷ items) = omega (arith, items_within (item ∷ items), total_first (array_text (item ∷ items)) [])
 
+length_flat : (texts : List (List ℕ)) → length (flat_map (λ text. text) texts) ≡ total texts
+length_flat [] = refl
+length_flat (text ∷ texts) = omega (arith, length-append text (flat_map (λ text. text) texts), length_flat texts, total_first text texts)
+
 -- ---- a level, each node once
 
 module _ (f : ℕ → List ℕ) where
@@ -139,30 +144,67 @@ module _ (f : ℕ → List ℕ) where
   pub once : (nodes : List ℕ) → total (map f (ascending nat_cmp nodes)) ≤ total (map f nodes)
   once nodes = omega (arith, more [] nodes)
 
-  -- the nodes of all lists, as often as they are there, in what holds each list
-  pub all_within : (holds : List ℕ → List ℕ) (lists : List (List ℕ)) → ((list : List ℕ) → total (map f list) ≤ length (holds list)) → total (map f (flat_map (λ list. list) lists)) ≤ total (map holds lists)
-  all_within holds [] each = omega arith
-  all_within holds (list ∷ lists) each =
-      omega (
-        arith,
-        ap total (map-append f list (flat_map (λ list. list) lists)),
-        total_joined (map f list) (map f (flat_map (λ list. list) lists)),
-        each list,
-        all_within holds lists each,
-        total_first (holds list) (map holds lists),
-      )
+  module _ {X : Type 0} (list_of : X → List ℕ) (holds : X → List ℕ) (each : (x : X) → total (map f (list_of x)) ≤ length (holds x)) where
+    -- the nodes of all lists, as often as they are there, in the texts that hold the lists
+    all_within : (xs : List X) → total (map f (flat_map list_of xs)) ≤ total (map holds xs)
+    all_within [] = omega arith
+    all_within (x ∷ xs) =
+        omega (
+          arith,
+          ap total (map-append f (list_of x) (flat_map list_of xs)),
+          total_joined (map f (list_of x)) (map f (flat_map list_of xs)),
+          each x,
+          all_within xs,
+          total_first (holds x) (map holds xs),
+        )
 
-  -- a level has no more bytes than what holds the lists that it was gathered from
-  pub level_within : (holds : List ℕ → List ℕ) (lists : List (List ℕ)) → ((list : List ℕ) → total (map f list) ≤ length (holds list))
-      → total (map f (ascending nat_cmp (flat_map (λ list. list) lists))) ≤ total (map holds lists)
-  level_within holds lists each = omega (arith, once (flat_map (λ list. list) lists), all_within holds lists each)
-
-  length_flat : (texts : List (List ℕ)) → length (flat_map (λ text. text) texts) ≡ total texts
-  length_flat [] = refl
-  length_flat (text ∷ texts) = omega (arith, length-append text (flat_map (λ text. text) texts), length_flat texts, total_first text texts)
+    -- a level has no more bytes than the texts that hold the lists which it was gathered from
+    pub level_within : (xs : List X) → total (map f (ascending nat_cmp (flat_map list_of xs))) ≤ total (map holds xs)
+    level_within xs = omega (arith, once (flat_map list_of xs), all_within xs)
 
   -- so for the arrays of these lists, with objects in front
   pub arrays_within : (front : List ℕ → List (List ℕ)) (lists : List (List ℕ))
       → total (map f (ascending nat_cmp (flat_map (λ list. list) lists))) ≤ total (map (λ list. flat_map (λ text. text) (array_of (front list) (map f list))) lists)
   arrays_within front lists =
-      level_within (λ list. flat_map (λ text. text) (array_of (front list) (map f list))) lists (λ list. omega (arith, shown_within (front list) (map f list), length_flat (array_of (front list) (map f list))))
+      level_within (λ list. list) (λ list. flat_map (λ text. text) (array_of (front list) (map f list))) (λ list. omega (arith, shown_within (front list) (map f list), length_flat (array_of (front list) (map f list)))) lists
+
+-- ---- a row, column by column
+
+-- a field of a row is in it
+pub field_within : (before : List Field) (field : Field) (after : List Field) → length (field_text field) ≤ length (row_text (before ++ field ∷ after))
+field_within before field after =
+    omega (
+      arith,
+      fields_within (before ++ field ∷ after),
+      ap total (map-append field_text before (field ∷ after)),
+      total_joined (map field_text before) (map field_text (field ∷ after)),
+      total_first (field_text field) (map field_text after),
+    )
+
+-- the field of an array has all its rows
+pub rows_in_field : (key : List ℕ) (items : List Tree) (front rows : List (List ℕ)) → map tree_text items ≡ front ++ objects_of rows → total rows ≤ length (field_text (record { key = key; tree = trees.Array items }))
+rows_in_field key items front rows is =
+    let field : Field = record { key = key; tree = trees.Array items } in
+    omega (arith, longer_field field, ap length (array_of_trees items), ap (λ texts. length (array_text texts)) is, array_within front rows)
+
+module _ {X : Type 0} (shown : X → ℕ → List ℕ) where
+  none_shown : (xs : List X) → sum_by (λ x. total (map (shown x) [])) xs ≡ 0
+  none_shown [] = refl
+  none_shown (x ∷ xs) = omega (arith, sum_by-cons (λ x. total (map (shown x) [])) x xs, none_shown xs)
+
+  node_first : (node : ℕ) (nodes : List ℕ) (xs : List X) → sum_by (λ x. total (map (shown x) (node ∷ nodes))) xs ≡ total (map (λ x. shown x node) xs) + sum_by (λ x. total (map (shown x) nodes)) xs
+  node_first node nodes [] = refl
+  node_first node nodes (x ∷ xs) =
+      omega (
+        arith,
+        sum_by-cons (λ x. total (map (shown x) (node ∷ nodes))) x xs,
+        sum_by-cons (λ x. total (map (shown x) nodes)) x xs,
+        total_first (shown x node) (map (shown x) nodes),
+        total_first (shown x node) (map (λ x. shown x node) xs),
+        node_first node nodes xs,
+      )
+
+  -- columns together have no more bytes than the rows that hold them
+  pub columns_within : (xs : List X) (row : ℕ → List ℕ) (nodes : List ℕ) → ((node : ℕ) → total (map (λ x. shown x node) xs) ≤ length (row node)) → sum_by (λ x. total (map (shown x) nodes)) xs ≤ total (map row nodes)
+  columns_within xs row [] each = omega (arith, none_shown xs)
+  columns_within xs row (node ∷ nodes) each = omega (arith, node_first node nodes xs, each node, columns_within xs row nodes each, total_first (row node) (map row nodes))

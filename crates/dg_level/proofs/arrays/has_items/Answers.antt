@@ -1,4 +1,4 @@
-use Rattle.std.proofs.Common.{ℕ, ◌<◌, length, map, rules}
+use Rattle.std.proofs.Common.{◌<◌, length, map, rules}
 use Rattle.dg_level.specs.Rows.{objects_of}
 use Rattle.dg_level.proofs.PartLaws.{some_first}
 use Rattle.dg_level.proofs.arrays.has_items.Goals as goal

@@ -1,4 +1,4 @@
-use Rattle.std.proofs.Common.{◌<◌, arith}
+use Rattle.std.proofs.Common.{arith}
 use Rattle.dg_level.proofs.KeepLemmas.{begins_at}
 use Rattle.dg_level.proofs.rows.start_of.Goals as goal
 

@@ -1,7 +1,7 @@
-use Rattle.std.proofs.Common.{◌≡◌, ℕ, ◌+◌, ◌<◌, false, List, ◌++◌, map, length, codes, ap, ◌∙◌, arith, rules}
+use Rattle.std.proofs.Common.{◌≡◌, ◌+◌, ◌<◌, false, ◌++◌, map, length, codes, ap, ◌∙◌, arith, rules}
 use Rattle.std.proofs.lemmas.Result.{on_ok_weaker}
 use Rattle.dg_tree.specs.Texts.{array_text}
-use Rattle.dg_level.specs.Parts.{parts_text, has_parts}
+use Rattle.dg_level.specs.Parts.{parts_text}
 use Rattle.dg_level.specs.Rows.{total, objects_of}
 use Rattle.dg_level.proofs.PartLaws.{front_passes, objects_pass, array_is}
 use Rattle.dg_level.proofs.rows.Rows.array.Goals as goal

@@ -1,4 +1,4 @@
-use Rattle.std.proofs.Common.{◌≡◌, ℕ, ◌+◌, ◌<◌, true, false, List, [], ◌∷◌, ◌++◌, map, length, sym, ap, ◌∙◌, subst, rules}
+use Rattle.std.proofs.Common.{◌≡◌, ℕ, ◌+◌, ◌<◌, true, false, List, ◌++◌, map, length, sym, ◌∙◌, subst, rules}
 use Rattle.dg_tree.specs.Texts.{array_text}
 use Rattle.dg_level.specs.Parts.{has_parts}
 use Rattle.dg_level.specs.Rows.{total, objects_of, with_fields}

@@ -1,4 +1,4 @@
-use Rattle.std.proofs.Common.{◌≡◌, length, ap, arith}
+use Rattle.std.proofs.Common.{length, ap, arith}
 use Rattle.dg_level.specs.Rows.{Written}
 use Rattle.dg_level.proofs.KeepLemmas.{rows_long}
 use Rattle.dg_level.proofs.rows.Rows.len.Goals as goal

@@ -1,4 +1,4 @@
-use Rattle.std.proofs.Common.{◌≡◌, length, ap, arith}
+use Rattle.std.proofs.Common.{length, ap, arith}
 use Rattle.dg_level.specs.Rows.{Written, total}
 use Rattle.dg_level.proofs.KeepLemmas.{total_is}
 use Rattle.dg_level.proofs.rows.Rows.total.Goals as goal
