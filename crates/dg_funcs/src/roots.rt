@@ -49,8 +49,8 @@ fn nodes_among(alloc: Global, objects: &[Posting]) -> Mem<Vec<u64>>
     Ok(found)
 }
 
-// The nodes to which a subject points.
-fn ends_of<S: Snapshot, L: Ledger>(
+/// The nodes to which a subject points.
+pub(crate) fn ends_of<S: Snapshot, L: Ledger>(
     alloc: Global,
     snap: &S,
     p: &str,
