@@ -29,7 +29,7 @@ use Rattle.dg_check.specs.Faults.{kind_of_part}
 use Rattle.dg_check.specs.Plans.{literal_read, literals_read, values_beside, place_of, node_of, of_part, IsPatternOf, IsReadFunc}
 use Rattle.dg_check.specs.Variables.{Definition, names_for}
 use Rattle.dg_check.specs.Vars.{value_at, named_nodes, nodes_of}
-use Rattle.dg_funcs.specs.Truth.{ texts_at, nodes_along, compared, stands, stands_to_any, is_between, finds, holds_at}
+use Rattle.dg_funcs.specs.Truth.{texts_at, nodes_along, compared, stands, stands_to_any, is_between, finds, holds_at}
 use Rattle.dg_funcs.specs.Roots.{nodes_of_part, candidates}
 use Rattle.dg_funcs.specs.Meaning.{kind_of, stands_to_read, text_stands_to_any, text_is_between, text_named_nodes, text_compared, found_by, text_holds_at, text_nodes_of_part, text_candidates}
 use Rattle.dg_funcs.specs.Kinds.{is_of_known_kind}
