@@ -153,7 +153,8 @@ only_values (v ∷ vs) = ap (λ ws. v ∷ ws) (only_values vs)
 pub distinct_are : (values : List Value) → filter_map value_in (ascending posting_cmp (map (λ v. Val v) values)) ≡ ascending value_cmp values
 distinct_are values = ap (filter_map value_in) (ascending_values [] values) ∙ only_values (ascending value_cmp values)
 
-stands_same : (v : Value) (values : List Value) → stands_to_any ops.Eq (ascending value_cmp values) v ≡ stands_to_any ops.Eq values v
+-- a value is equal to one of some values exactly where it is to one of these, each once
+pub stands_same : (v : Value) (values : List Value) → stands_to_any ops.Eq (ascending value_cmp values) v ≡ stands_to_any ops.Eq values v
 stands_same v values = any_same value_cmp value_order (λ given. is_eq (value_cmp v given)) (ascending value_cmp values) values (λ x h. ascending_has value_cmp value_order values x)
 
 -- each of them once asks the same

@@ -8,6 +8,7 @@ pub mod RootLaws
 pub mod EqualLaws
 pub mod TermLaws
 pub mod FoundLaws
+pub mod KindLaws
 pub mod MeaningLaws
 pub mod FilterMeanings
 pub mod NarrowLaws

@@ -1,7 +1,7 @@
 -- A function of a plan means what that of the text does.
-use Rattle.std.proofs.Common.{◌≡◌, ℕ, Bool, true, false, cond, List, [], ◌∷◌, ◌++◌, map, refl, ap, sym, ◌∙◌, subst}
-use Rattle.std.specs.Prelude.{◌&&◌, ◌||◌, Option, Some, None, IfSome, option_map, option_to_list, filter, filter_map}
-use Rattle.std.specs.List.{list_any, cons_option, AllByRecursion}
+use Rattle.std.proofs.Common.{◌≡◌, ℕ, Bool, true, false, List, [], ◌∷◌, ◌++◌, map, refl, ap, sym, ◌∙◌}
+use Rattle.std.specs.Prelude.{◌&&◌, ◌||◌, Option, Some, None, IfSome, option_to_list, filter, filter_map}
+use Rattle.std.specs.List.{list_any, cons_option}
 use Rattle.std.specs.Ordering.{nat_cmp}
 use Rattle.std.proofs.lemmas.Bool.{false≢true}
 use Rattle.dg_values.specs.Ascending.{ascending, has}
@@ -11,13 +11,9 @@ use Rattle.dg_values.specs.declared.kind.Kind.{Kind}
 use Rattle.dg_values.specs.declared.kind.Kind.TheVariants as kinds
 use Rattle.dg_values.specs.declared.value.Value.{Value}
 use Rattle.dg_values.specs.declared.value.Value.TheVariants.{Int, Text, Bool as Truth, Time}
-use Rattle.dg_values.specs.declared.value.Posting.{Posting}
-use Rattle.dg_values.specs.declared.value.Posting.TheVariants as postings
 use Rattle.dg_schema.specs.declared.definition.PredDef.{PredDef}
-use Rattle.dg_schema.specs.Definitions.{definition_of}
 use Rattle.dg_graph.specs.declared.change.Triple.{Triple}
-use Rattle.dg_graph.specs.Graphs.{is_of_kind, is_of_subject, fits, fits_by, IsLawful}
-use Rattle.dg_graph.proofs.GraphLaws.{same_subject}
+use Rattle.dg_graph.specs.Graphs.{IsLawful}
 use Rattle.dg_parse.specs.declared.query.CmpOp.{CmpOp}
 use Rattle.dg_parse.specs.declared.query.CmpOp.TheVariants as ops
 use Rattle.dg_parse.specs.declared.query.QFunc.{QFunc}
@@ -33,12 +29,14 @@ use Rattle.dg_check.specs.Faults.{kind_of_part}
 use Rattle.dg_check.specs.Plans.{literal_read, literals_read, values_beside, place_of, node_of, of_part, IsPatternOf, IsReadFunc}
 use Rattle.dg_check.specs.Variables.{Definition, names_for}
 use Rattle.dg_check.specs.Vars.{value_at, named_nodes, nodes_of}
-use Rattle.dg_funcs.specs.Truth.{value_in, values_at, texts_at, nodes_along, compared, stands, stands_to_any, is_between, finds, holds_at}
+use Rattle.dg_funcs.specs.Truth.{texts_at, nodes_along, compared, stands, stands_to_any, is_between, finds, holds_at}
 use Rattle.dg_funcs.specs.Roots.{nodes_of_part, candidates}
 use Rattle.dg_funcs.specs.Meaning.{kind_of, stands_to_read, text_stands_to_any, text_is_between, text_named_nodes, text_compared, found_by, text_holds_at, text_nodes_of_part, text_candidates}
-use Rattle.dg_funcs.specs.Laws.{is_of_known_kind, AreOfKind, FuncsMeanTheirTexts, RootsMeanTheirTexts}
+use Rattle.dg_funcs.specs.Kinds.{is_of_known_kind}
+use Rattle.dg_funcs.specs.Laws.{AreOfKind, FuncsMeanTheirTexts, RootsMeanTheirTexts}
 use Rattle.dg_funcs.proofs.PassLaws.{filter_same}
 use Rattle.dg_funcs.proofs.TestLaws.{any_by}
+use Rattle.dg_funcs.proofs.KindLaws.{any_where, AreOf, values_fit}
 use Rattle.dg_funcs.proofs.FoundLaws.{built_found}
 
 -- ---- literals
@@ -78,42 +76,6 @@ between_alike kind low high v e = (λ i. stands_to_read ops.Ge v (read_alike kin
     by None (Some y) = refl
     by (Some x) None = and_false (stands ops.Ge (value_cmp v x))
     by (Some x) (Some y) = refl
-
--- two tests that agree where something holds agree on what it holds of
-any_where : {X : Type 0} (P : X → Type 0) (f g : X → Bool) → ((x : X) → P x → f x ≡ g x) → (xs : List X) → AllByRecursion P xs → list_any f xs ≡ list_any g xs
-any_where P f g e [] a = refl
-any_where P f g e (x ∷ xs) a =
-    let here = e x a.0 in
-    let rest = any_where P f g e xs a.1 in
-    λ i. here i || rest i
-
--- ---- kinds
-
--- each of these values is of a kind
-abbrev AreOf : Option Kind → List Value → Type 0
-AreOf kind = AllByRecursion (λ v. is_of_known_kind kind v ≡ true)
-
--- the kind of a definition
-abbrev defined_kind : Option PredDef → Option Kind
-defined_kind = option_map (λ d. d.kind)
-
-object_fits : (d : Option PredDef) (t : Triple) (more : List Value) → fits_by d t ≡ true → AreOf (defined_kind d) more → AreOf (defined_kind d) (cons_option (value_in t.o) more)
-object_fits None t more e a = absurd (false≢true e)
-object_fits (Some d) t more e a = by t.o e
-  where
-    by : (o : Posting) → is_of_kind d.kind o ≡ true → AreOf (Some d.kind) (cons_option (value_in o) more)
-    by (postings.Uid n) e = a
-    by (postings.Val v) e = (e, a)
-
--- values of a lawful graph are of their predicate's kind
-values_fit : (schema : List PredDef) (p : List ℕ) (node : ℕ) (graph : List Triple) → AllByRecursion (λ t. fits schema t ≡ true) graph → AreOf (defined_kind (definition_of schema p)) (values_at graph p node)
-values_fit schema p node [] a = tt
-values_fit schema p node (t ∷ graph) a = by (is_of_subject p node t) refl (values_fit schema p node graph a.1)
-  where
-    by : (b : Bool) → is_of_subject p node t ≡ b → AreOf (defined_kind (definition_of schema p)) (values_at graph p node)
-        → AreOf (defined_kind (definition_of schema p)) (filter_map value_in (map (λ t. t.o) (cond b (t ∷ filter (is_of_subject p node) graph) (filter (is_of_subject p node) graph))))
-    by false e rest = rest
-    by true e rest = object_fits (definition_of schema p) t (values_at graph p node) (subst (λ (q : List ℕ). fits_by (definition_of schema q) t ≡ true) (same_subject p node t e).0 a.0) rest
 
 value_fits : (kind : Option Kind) (o : Option Value) → IfSome o (λ v. is_of_known_kind kind v ≡ true) → AreOf kind (option_to_list o)
 value_fits kind None h = tt

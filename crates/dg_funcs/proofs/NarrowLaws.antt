@@ -7,15 +7,18 @@ use Rattle.dg_values.specs.Ascending.{Ascends, has}
 use Rattle.dg_values.specs.declared.value.Value.{Value}
 use Rattle.dg_values.specs.declared.value.Posting.{Posting}
 use Rattle.dg_values.specs.declared.value.Posting.TheVariants.{Uid, Val}
+use Rattle.dg_schema.specs.declared.definition.PredDef.{PredDef}
 use Rattle.dg_sets.proofs.MadeOrders.{nat_order}
 use Rattle.dg_sets.proofs.Sets.{one_list, has_passed, ascends_passed}
 use Rattle.dg_graph.specs.declared.change.Triple.{Triple}
-use Rattle.dg_graph.specs.Graphs.{objects}
+use Rattle.dg_graph.specs.Graphs.{objects, IsLawful}
 use Rattle.dg_graph.specs.Lookups.{subjects_where, holders}
 use Rattle.dg_graph.proofs.LookUpLaws.{where_are, where_ascend, holders_ascend}
 use Rattle.dg_funcs.specs.Truth.{values_at}
 use Rattle.dg_funcs.specs.Tests.{in_value}
+use Rattle.dg_funcs.specs.Kinds.{is_of_known_kind, declared_kind}
 use Rattle.dg_funcs.proofs.TestLaws.{any_values}
+use Rattle.dg_funcs.proofs.KindLaws.{any_where, values_fit}
 
 -- of two ascending lists that both have each node that passes, the same nodes pass
 pub narrowed : (test : ℕ → Bool) (some all : List ℕ) → Ascends nat_cmp some → Ascends nat_cmp all
@@ -47,6 +50,10 @@ any_more f g h (x ∷ xs) e = by (f x) refl e (any_more f g h xs)
     by true p e rest = left (g x) (list_any g xs) (h x p)
     by false p e rest = right (g x) (list_any g xs) (rest e)
 
+and_right : (a b : Bool) → (a && b) ≡ true → b ≡ true
+and_right true b e = e
+and_right false b e = absurd (cc)
+
 module _ (graph : List Triple) (p : List ℕ) where
   -- a node with a value that passes is listed by each test of objects that such a value passes
   pub listed_with : (test : Value → Bool) (listed : Posting → Bool) → ((v : Value) → test v ≡ true → listed (Val v) ≡ true)
@@ -74,3 +81,19 @@ module _ (graph : List Triple) (p : List ℕ) where
       → filter (λ n. list_any test (values_at graph p n)) (subjects_where listed graph p) ≡ filter (λ n. list_any test (values_at graph p n)) (holders graph p)
   same_of_listed test listed f =
       same_of_values test (subjects_where listed graph p) (where_ascend listed graph p) (listed_with test listed f)
+
+  -- in a lawful graph it has to list those of the predicate's kind alone
+  pub same_of_fitting : (schema : List PredDef) → IsLawful schema graph → (test : Value → Bool) (listed : Posting → Bool)
+      → ((v : Value) → is_of_known_kind (declared_kind schema p) v ≡ true → test v ≡ true → listed (Val v) ≡ true)
+      → filter (λ n. list_any test (values_at graph p n)) (subjects_where listed graph p) ≡ filter (λ n. list_any test (values_at graph p n)) (holders graph p)
+  same_of_fitting schema lawful test listed f =
+      same_of_values test (subjects_where listed graph p) (where_ascend listed graph p)
+      (λ n e. listed_with (λ v. test v && listed (Val v)) listed (λ v h. and_right (test v) (listed (Val v)) h) n
+      (sym (any_where (λ v. is_of_known_kind (declared_kind schema p) v ≡ true) test (λ v. test v && listed (Val v)) both (values_at graph p n) (values_fit schema p n graph lawful.fit)) ∙ e))
+    where
+      both : (v : Value) → is_of_known_kind (declared_kind schema p) v ≡ true → test v ≡ (test v && listed (Val v))
+      both v k = by (test v) refl
+        where
+          by : (b : Bool) → test v ≡ b → b ≡ (b && listed (Val v))
+          by true e = sym (f v k e)
+          by false e = refl

@@ -14,7 +14,7 @@ use Rattle.dg_values.specs.declared.value.Value.TheVariants.{Int, Text, Bool as 
 use Rattle.dg_values.specs.declared.value.Posting.TheVariants.{Val}
 use Rattle.dg_values.proofs.OrderLaws.{value_order}
 use Rattle.dg_sets.proofs.MadeOrders.{nat_order, text_order}
-use Rattle.dg_sets.proofs.Sets.{is_one, is_itself, any_at, has_joined}
+use Rattle.dg_sets.proofs.Sets.{is_one, is_itself, any_at}
 use Rattle.dg_tokens.specs.Terms.{terms_of}
 use Rattle.dg_tokens.specs.Orders.{index_token_cmp}
 use Rattle.dg_tokens.proofs.TokenOrder.{index_token_order}
@@ -32,14 +32,11 @@ use Rattle.dg_funcs.specs.Filed.{filed_as}
 use Rattle.dg_funcs.specs.Listed.{under, lacks_terms, under_terms, under_any_terms}
 use Rattle.dg_funcs.specs.Roots.{root_nodes}
 use Rattle.dg_funcs.proofs.PassLaws.{or_true}
+use Rattle.dg_funcs.proofs.IndexLaws.{flat_has}
 use Rattle.dg_funcs.proofs.TestLaws.{any_by, any_of_texts}
 use Rattle.dg_funcs.proofs.AllTermLaws.{asked_once, under_terms_has}
 use Rattle.dg_funcs.proofs.NarrowLaws.{listed_with, same_of_values}
 use Rattle.dg_funcs.proofs.RangeLaws.{one_of}
-
-flat_has : {X : Type 0} (f : X → List ℕ) (xs : List X) (n : ℕ) → has nat_cmp (flat_map f xs) n ≡ list_any (λ x. has nat_cmp (f x) n) xs
-flat_has f [] n = refl
-flat_has f (x ∷ xs) n = has_joined nat_cmp nat_order (f x) (flat_map f xs) n ∙ ap (λ b. has nat_cmp (f x) n || b) (flat_has f xs n)
 
 -- a test that none passes, one of them doesn't
 none_of : (values : List Value) (given : Value) → list_any lacks_terms values ≡ false → has value_cmp values given ≡ true → lacks_terms given ≡ false

@@ -1,31 +1,34 @@
 -- Nodes by their numbers.
-use Rattle.std.proofs.Common.{◌≡◌, ℕ, ℤ, pos, ◌≤◌, nat_le, Bool, true, false, cond, not, List, [], ◌∷◌, length, refl, ap, sym, ◌∙◌, arith}
+use Rattle.std.proofs.Common.{◌≡◌, ℕ, ℤ, pos, ◌≤◌, nat_le, Bool, true, false, cond, not, List, [], ◌∷◌, flat_map, length, refl, ap, sym, ◌∙◌, arith}
 use Rattle.std.specs.Prelude.{◌&&◌, ◌||◌, filter, Option}
 use Rattle.std.specs.List.{list_any}
 use Rattle.std.proofs.lemmas.Bool.{le-leb, leb-true}
 use Rattle.std.specs.declared.cmp.Ordering.{Ordering}
 use Rattle.std.specs.declared.cmp.Ordering.TheVariants.{Less, Equal, Greater}
-use Rattle.std.specs.Ordering.{int_cmp, is_eq, is_le, is_lt, is_ge, is_gt}
+use Rattle.std.specs.Ordering.{nat_cmp, int_cmp, is_eq, is_le, is_lt, is_ge, is_gt}
 use Rattle.dg_values.specs.declared.kind.Kind.{Kind}
+use Rattle.dg_values.specs.declared.value.Value.{Value}
 use Rattle.dg_values.specs.declared.value.Value.TheVariants.{Int}
 use Rattle.dg_uids.specs.Sets.{lacking}
 use Rattle.dg_graph.specs.declared.change.Triple.{Triple}
 use Rattle.dg_graph.specs.Graphs.{objects}
 use Rattle.dg_graph.specs.Lookups.{holders, pointed_to, by_count, has_number, number_of}
-use Rattle.dg_graph.proofs.LookUpLaws.{counted_are}
+use Rattle.dg_graph.proofs.LookUpLaws.{counted_are, counted_ascend}
 use Rattle.dg_values.specs.declared.value.Posting.TheVariants.{Uid}
-use Rattle.dg_values.specs.Order.{posting_cmp}
+use Rattle.dg_values.specs.Order.{posting_cmp, value_cmp}
+use Rattle.dg_values.specs.Ascending.{ascending}
 use Rattle.dg_parse.specs.declared.query.CmpOp.{CmpOp}
 use Rattle.dg_parse.specs.declared.query.CmpOp.TheVariants as ops
 use Rattle.dg_parse.specs.declared.query.QEdge.{QEdge}
 use Rattle.dg_check.specs.declared.parts.Of.TheVariants as part
 use Rattle.dg_check.specs.declared.parts.Func.TheVariants as funcs
 use Rattle.dg_check.specs.declared.vars.Variable.{Variable}
-use Rattle.dg_funcs.specs.Truth.{stands, count_along}
+use Rattle.dg_funcs.specs.Truth.{stands, stands_to_any, count_along}
 use Rattle.dg_funcs.specs.Roots.{nodes_with, root_nodes}
-use Rattle.dg_funcs.specs.Numbers.{numbered, standing}
+use Rattle.dg_funcs.specs.Numbers.{numbered, standing, numbered_as}
 use Rattle.dg_funcs.proofs.PassLaws.{or_false, filter_same, filter_true, lacking_passed}
-use Rattle.dg_funcs.proofs.IndexLaws.{where_is_filter}
+use Rattle.dg_funcs.proofs.IndexLaws.{where_is_filter, gathered_any}
+use Rattle.dg_funcs.proofs.EqualLaws.{stands_same}
 
 fewer : (f : ℕ → Bool) (xs : List ℕ) → length (filter f xs) ≤ length xs
 fewer f [] = omega arith
@@ -94,6 +97,23 @@ module _ (graph : List Triple) (edge : QEdge) where
     where
       test : ℕ → Bool
       test m = stands op (int_cmp (pos (count_along graph edge m)) n)
+
+  -- no number is a value that is none
+  pub none_there : (v : Value) → ((k : ℤ) → is_eq (value_cmp (Int k) v) ≡ false) → [] ≡ numbered_as graph edge v
+  none_there v f = none (nodes_with graph edge)
+    where
+      none : (xs : List ℕ) → [] ≡ filter (λ n. is_eq (value_cmp (Int (pos (count_along graph edge n))) v)) xs
+      none [] = refl
+      none (x ∷ xs) = none xs ∙ λ i. cond (sym (f (pos (count_along graph edge x))) i) (x ∷ filter (λ n. is_eq (value_cmp (Int (pos (count_along graph edge n))) v)) xs) (filter (λ n. is_eq (value_cmp (Int (pos (count_along graph edge n))) v)) xs)
+
+  -- the nodes of each of some values, which are asked for once
+  pub any_number : (values : List Value) → ascending nat_cmp (flat_map (numbered_as graph edge) (ascending value_cmp values)) ≡ numbered graph edge (λ k. stands_to_any ops.Eq values (Int k))
+  any_number values =
+      gathered_any (λ v n. is_eq (value_cmp (Int (pos (count_along graph edge n))) v)) (ascending value_cmp values) (nodes_with graph edge) (counted_ascend graph edge.pred edge.back)
+      ∙ λ i. numbered graph edge (λ k. stands_same (Int k) values i)
+
+  pub any_number_root : (vars : List Variable) (kind : Option Kind) (values : List Value) → numbered graph edge (λ k. stands_to_any ops.Eq values (Int k)) ≡ root_nodes graph vars (funcs.Cmp ops.Eq (part.Count edge) kind values)
+  any_number_root vars kind values = λ i. numbered graph edge (λ k. sym (or_false (stands_to_any ops.Eq values (Int k))) i)
 
   pub between_numbers_root : (vars : List Variable) (kind : Option Kind) (a b : ℤ) → numbered graph edge (λ k. is_ge (int_cmp k a) && is_le (int_cmp k b)) ≡ root_nodes graph vars (funcs.Between (part.Count edge) kind (Int a ∷ Int b ∷ []))
   between_numbers_root vars kind a b =

@@ -18,8 +18,10 @@ use Rattle.dg_values.specs.declared.value.Posting.TheVariants.{Val}
 use Rattle.dg_values.specs.Instant.{Instant, IsInstant}
 use Rattle.dg_values.specs.Calendar.{truncated}
 use Rattle.dg_values.proofs.OrderLaws.{value_order}
+use Rattle.dg_schema.specs.declared.definition.PredDef.{PredDef}
 use Rattle.dg_tokens.specs.Tokens.{one_token, tokens_of}
 use Rattle.dg_graph.specs.declared.change.Triple.{Triple}
+use Rattle.dg_graph.specs.Graphs.{IsLawful}
 use Rattle.dg_graph.specs.Lookups.{is_from, is_up_to, has_token_between, by_token_range}
 use Rattle.dg_parse.specs.declared.query.CmpOp.{CmpOp}
 use Rattle.dg_check.specs.declared.parts.Of.TheVariants as part
@@ -28,8 +30,10 @@ use Rattle.dg_check.specs.declared.vars.Variable.{Variable}
 use Rattle.dg_funcs.specs.Truth.{stands, stands_to_any, is_between, holds_at}
 use Rattle.dg_funcs.specs.Roots.{root_nodes}
 use Rattle.dg_funcs.specs.Filed.{filed_as, IsInYears}
+use Rattle.dg_funcs.specs.Kinds.{declared_kind, keeps}
 use Rattle.dg_funcs.proofs.PassLaws.{or_false}
-use Rattle.dg_funcs.proofs.NarrowLaws.{same_of_listed}
+use Rattle.dg_funcs.proofs.KindLaws.{own_token}
+use Rattle.dg_funcs.proofs.NarrowLaws.{same_of_listed, same_of_fitting}
 use Rattle.dg_funcs.proofs.CutLaws.{InYears, cut_in_order, secs_in_order}
 
 -- what is filed has one token
@@ -63,10 +67,13 @@ one_of tokenizers.Term v w e = absurd (cc)
 one_of tokenizers.Trigram v w e = absurd (cc)
 one_of tokenizers.Bool v w e = absurd (cc)
 
--- and is listed where this lies between the ends
+-- a value with one token is listed where this lies between the ends
+listed_by : (tokenizer : Tokenizer) (v w : Value) (low high : Option Value) → tokens_of tokenizer v ≡ one_token tokenizer w → is_from low w ≡ true → is_up_to high w ≡ true → has_token_between tokenizer low high (Val v) ≡ true
+listed_by tokenizer v w low high e a b =
+    ap (list_any (λ t. is_from low t.value && is_up_to high t.value)) e ∙ λ i. (a i && b i) || false
+
 listed : (tokenizer : Tokenizer) (v w : Value) (low high : Option Value) → filed_as tokenizer v ≡ Some w → is_from low w ≡ true → is_up_to high w ≡ true → has_token_between tokenizer low high (Val v) ≡ true
-listed tokenizer v w low high e a b =
-    ap (list_any (λ t. is_from low t.value && is_up_to high t.value)) (one_of tokenizer v w e) ∙ λ i. (a i && b i) || false
+listed tokenizer v w low high e a b = listed_by tokenizer v w low high (one_of tokenizer v w e) a b
 
 -- ---- orders
 
@@ -195,13 +202,6 @@ above_lists tokenizers.Term m v x e i h = absurd (cc)
 above_lists tokenizers.Trigram m v x e i h = absurd (cc)
 above_lists tokenizers.Bool m v x e i h = absurd (cc)
 
--- what is at or below a number is one
-below_lists : (n : ℤ) (v : Value) → is_le (value_cmp v (Int n)) ≡ true → has_token_between tokenizers.Int None (Some (Int n)) (Val v) ≡ true
-below_lists n (Int v) h = listed tokenizers.Int (Int v) (Int v) None (Some (Int n)) refl refl h
-below_lists n (Text v) h = absurd (cc)
-below_lists n (Truth v) h = absurd (cc)
-below_lists n (Time v) h = absurd (cc)
-
 -- ---- roots
 
 module _ (graph : List Triple) (p : List ℕ) (vars : List Variable) (kind : Option Kind) where
@@ -210,14 +210,25 @@ module _ (graph : List Triple) (p : List ℕ) (vars : List Variable) (kind : Opt
   between_root tokenizer a b x y e f i j =
       same_of_listed graph p (is_between (a ∷ b ∷ [])) (has_token_between tokenizer (Some x) (Some y)) (λ v h. between_lists tokenizer a b v x y e f i j h)
 
-  pub below_root : (op : CmpOp) → ((o : Ordering) → stands op o ≡ true → is_le o ≡ true) → (n : ℤ)
-      → filter (λ m. holds_at graph vars m (funcs.Cmp op (part.Pred p) kind (Int n ∷ []))) (by_token_range graph p tokenizers.Int None (Some (Int n))) ≡ root_nodes graph vars (funcs.Cmp op (part.Pred p) kind (Int n ∷ []))
-  below_root op below n =
-      same_of_listed graph p (stands_to_any op (Int n ∷ [])) (has_token_between tokenizers.Int None (Some (Int n)))
-      (λ v h. below_lists n v (below (value_cmp v (Int n)) (sym (or_false (stands op (value_cmp v (Int n)))) ∙ h)))
-
-  pub above_root : (op : CmpOp) → ((o : Ordering) → stands op o ≡ true → is_ge o ≡ true) → (tokenizer : Tokenizer) (m : Instant) (x : Value) → filed_as tokenizer (Time m) ≡ Some x → IsInstant m
+  pub after_root : (op : CmpOp) → ((o : Ordering) → stands op o ≡ true → is_ge o ≡ true) → (tokenizer : Tokenizer) (m : Instant) (x : Value) → filed_as tokenizer (Time m) ≡ Some x → IsInstant m
       → filter (λ n. holds_at graph vars n (funcs.Cmp op (part.Pred p) kind (Time m ∷ []))) (by_token_range graph p tokenizer (Some x) None) ≡ root_nodes graph vars (funcs.Cmp op (part.Pred p) kind (Time m ∷ []))
-  above_root op above tokenizer m x e i =
+  after_root op above tokenizer m x e i =
       same_of_listed graph p (stands_to_any op (Time m ∷ [])) (has_token_between tokenizer (Some x) None)
       (λ v h. above_lists tokenizer m v x e i (from_above v (Time m) (above (value_cmp v (Time m)) (sym (or_false (stands op (value_cmp v (Time m)))) ∙ h))))
+
+  -- by an index that lists the values of a lawful graph under themselves
+  module _ (schema : List PredDef) (lawful : IsLawful schema graph) (tokenizer : Tokenizer) (own : keeps tokenizer (declared_kind schema p) ≡ true) (op : CmpOp) (a : Value) where
+    stands_so : (v : Value) → stands_to_any op (a ∷ []) v ≡ true → stands op (value_cmp v a) ≡ true
+    stands_so v h = sym (or_false (stands op (value_cmp v a))) ∙ h
+
+    pub below_root : ((o : Ordering) → stands op o ≡ true → is_le o ≡ true)
+        → filter (λ n. holds_at graph vars n (funcs.Cmp op (part.Pred p) kind (a ∷ []))) (by_token_range graph p tokenizer None (Some a)) ≡ root_nodes graph vars (funcs.Cmp op (part.Pred p) kind (a ∷ []))
+    below_root below =
+        same_of_fitting graph p schema lawful (stands_to_any op (a ∷ [])) (has_token_between tokenizer None (Some a))
+        (λ v k h. listed_by tokenizer v v None (Some a) (own_token tokenizer (declared_kind schema p) v own k) refl (below (value_cmp v a) (stands_so v h)))
+
+    pub above_root : ((o : Ordering) → stands op o ≡ true → is_ge o ≡ true)
+        → filter (λ n. holds_at graph vars n (funcs.Cmp op (part.Pred p) kind (a ∷ []))) (by_token_range graph p tokenizer (Some a) None) ≡ root_nodes graph vars (funcs.Cmp op (part.Pred p) kind (a ∷ []))
+    above_root above =
+        same_of_fitting graph p schema lawful (stands_to_any op (a ∷ [])) (has_token_between tokenizer (Some a) None)
+        (λ v k h. listed_by tokenizer v v (Some a) None (own_token tokenizer (declared_kind schema p) v own k) (from_above v a (above (value_cmp v a) (stands_so v h))) refl)

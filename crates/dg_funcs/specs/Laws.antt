@@ -1,11 +1,8 @@
 -- A plan's functions and filters mean what the text's do.
-use Rattle.std.specs.Prelude.{◌≡◌, ℕ, List, Bool, true, false, Option, Some, None, IfSome}
-use Rattle.dg_values.specs.declared.kind.Kind.{Kind}
-use Rattle.dg_values.specs.declared.value.Value.{Value}
-use Rattle.dg_values.specs.declared.value.Posting.TheVariants as postings
+use Rattle.std.specs.Prelude.{◌≡◌, ℕ, List, true, false, IfSome}
 use Rattle.dg_schema.specs.declared.definition.PredDef.{PredDef}
 use Rattle.dg_graph.specs.declared.change.Triple.{Triple}
-use Rattle.dg_graph.specs.Graphs.{is_of_kind, IsLawful}
+use Rattle.dg_graph.specs.Graphs.{IsLawful}
 use Rattle.dg_parse.specs.declared.query.QFilter.{QFilter}
 use Rattle.dg_parse.specs.declared.query.QFunc.{QFunc}
 use Rattle.dg_check.specs.declared.parts.Filter.{Filter}
@@ -16,14 +13,10 @@ use Rattle.dg_check.specs.Parts.{IsFuncOf, IsFilterOf}
 use Rattle.dg_check.specs.Plans.{place_of}
 use Rattle.dg_check.specs.Variables.{Definition, names_for}
 use Rattle.dg_check.specs.Vars.{value_at}
+use Rattle.dg_funcs.specs.Kinds.{is_of_known_kind}
 use Rattle.dg_funcs.specs.Truth.{holds_at, passes}
 use Rattle.dg_funcs.specs.Roots.{root_nodes}
 use Rattle.dg_funcs.specs.Meaning.{text_holds_at, text_passes, text_root_nodes}
-
--- a value is of this kind; where there is no kind, none is
-abbrev pub is_of_known_kind : Option Kind → Value → Bool
-is_of_known_kind None v = false
-is_of_known_kind (Some kind) v = is_of_kind kind (postings.Val v)
 
 -- each value that a variable has is of the variable's kind
 abbrev pub AreOfKind : List Definition → List Variable → Type 0

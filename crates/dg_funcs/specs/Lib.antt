@@ -3,6 +3,7 @@ pub mod Truth
 pub mod Roots
 pub mod Tests
 pub mod Equal
+pub mod Kinds
 pub mod Meaning
 pub mod Laws
 pub mod Filed

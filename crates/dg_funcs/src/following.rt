@@ -9,6 +9,7 @@ ghost use Rattle.dg_graph.specs.Lookups.{subjects_of};
 ghost use Rattle.dg_funcs.specs.Truth.{nodes_along, count_along};
 ghost use Rattle.dg_funcs.specs.Tests.{is_node, is_node_among};
 
+use crate::roots::ends_of;
 use dg_graph::Snapshot;
 use dg_parse::QEdge;
 use dg_uids::Uids;
@@ -117,8 +118,9 @@ pub(crate) fn has_some<S: Snapshot, L: Ledger>(
     }
 }
 
-/// How many objects a node has by an edge, or how many subjects point to it.
-pub(crate) fn count_along<S: Snapshot, L: Ledger>(
+/// How many objects a node has by an edge, or how many subjects point to it. It reads one list, but for an edge backwards by a
+/// predicate that isn't declared with lists for that. The error is want of memory.
+pub fn count_along<S: Snapshot, L: Ledger>(
     alloc: Global,
     snap: &S,
     edge: &QEdge,
@@ -133,6 +135,25 @@ pub(crate) fn count_along<S: Snapshot, L: Ledger>(
     } else {
         let objects = snap.objects(alloc, edge.pred.as_str(), node, reads)?;
         Ok(number_of_objects(objects.as_slice()))
+    }
+}
+
+/// The nodes at the other end of an edge: the nodes among the objects of a node, or the subjects that point to it. It reads
+/// one list, but for an edge backwards by a predicate that isn't declared with lists for that. The error is want of memory.
+pub fn nodes_along<S: Snapshot, L: Ledger>(
+    alloc: Global,
+    snap: &S,
+    edge: &QEdge,
+    node: u64,
+    reads: &mut Steps<L>,
+) -> Mem<Vec<u64>>
+    ensures { IfOk result (λ v. v.items ≡ nodes_along (S.graph snap.now) edge.now node) }
+{
+    if edge.back {
+        let subjects = subjects_at(alloc, snap, edge.pred.as_str(), node, reads)?;
+        Ok(Vec::from_slice(alloc, subjects.as_slice())?)
+    } else {
+        ends_of(alloc, snap, edge.pred.as_str(), node, reads)
     }
 }
 

@@ -24,6 +24,7 @@ mod variables;
 pub use asked::Asked;
 pub use equal::equal_by_index;
 pub use filtering::{holds, passing};
+pub use following::{count_along, nodes_along};
 pub use laws::meanings;
 pub use roots::root;
 pub use variables::{named, value_at};

@@ -1,14 +1,18 @@
 // Comparisons of numbers of objects and of subjects, by lists of nodes by their numbers.
-ghost use Rattle.std.specs.Prelude.{◌≡◌, ◌≤◌, ◌∷◌, [], ◌&&◌, ℕ, pos, nat_le, true, Option, IfOk};
-ghost use Rattle.std.specs.Ordering.{int_cmp, is_le, is_lt, is_ge};
+ghost use Rattle.std.specs.Prelude.{◌≡◌, ◌≤◌, ◌∷◌, [], ◌&&◌, ℕ, pos, nat_le, true, Option, IfOk, flat_map};
+ghost use Rattle.std.specs.Ordering.{nat_cmp, int_cmp, is_le, is_lt, is_ge};
+ghost use Rattle.dg_values.specs.Ascending.{ascending};
 ghost use Rattle.dg_values.specs.declared.kind.Kind.{Kind};
 ghost use Rattle.dg_values.specs.declared.value.Value.TheVariants.{Int};
 ghost use Rattle.dg_graph.specs.Lookups.{has_numbers, pointed_to};
 ghost use Rattle.dg_check.specs.declared.parts.Func.TheVariants as funcs;
 ghost use Rattle.dg_check.specs.declared.parts.Of.TheVariants as part;
+ghost use Rattle.dg_parse.specs.declared.query.CmpOp.TheVariants as ops;
+ghost use Rattle.dg_funcs.specs.Truth.{stands_to_any};
 ghost use Rattle.dg_funcs.specs.Roots.{root_nodes};
-ghost use Rattle.dg_funcs.specs.Numbers.{numbered, standing};
+ghost use Rattle.dg_funcs.specs.Numbers.{numbered, standing, numbered_as};
 
+use crate::equal::distinct;
 use crate::roots::{nodes_with, root_by_search};
 use dg_check::{Func, Vars};
 use dg_graph::Snapshot;
@@ -161,9 +165,105 @@ fn root_by_number<S: Snapshot, L: Ledger>(
     }
 }
 
-/// The nodes whose number of objects, or of subjects, stands so to a value. Where there are lists of nodes by their numbers
-/// it reads the list of each number that does, and no list of a node; for `ge` and `gt` those that don't, and all nodes
-/// with an object. Of several values each node is asked.
+// The nodes whose number is a value: none where that is no number.
+fn equal_to<S: Snapshot, L: Ledger>(
+    alloc: Global,
+    snap: &S,
+    edge: &QEdge,
+    given: &Value,
+    reads: &mut Steps<L>,
+) -> Mem<Uids>
+    requires numbers { has_numbers (S.declared snap.now) edge.now.pred edge.now.back ≡ true }
+    ensures { IfOk result (λ uids. uids ≡ numbered_as (S.graph snap.now) edge.now given.now) }
+{
+    match given {
+        Value::Int(n) => between(alloc, snap, edge, n, n, reads),
+        Value::Text(_) => Ok(Uids::gathered(Vec::new(alloc))),
+        Value::Bool(_) => Ok(Uids::gathered(Vec::new(alloc))),
+        Value::Time(_) => Ok(Uids::gathered(Vec::new(alloc))),
+    }
+}
+
+// Those of some values, gathered and sorted once. It reads the list of each value.
+fn equal_to_each<S: Snapshot, L: Ledger>(
+    alloc: Global,
+    snap: &S,
+    edge: &QEdge,
+    values: &[Value],
+    reads: &mut Steps<L>,
+) -> Mem<Uids>
+    requires numbers { has_numbers (S.declared snap.now) edge.now.pred edge.now.back ≡ true }
+    ensures { IfOk result (λ uids. uids ≡ ascending nat_cmp (flat_map (numbered_as (S.graph snap.now) edge.now) values.now)) }
+{
+    let mut found = Vec::new(alloc);
+    for value in values {
+        let nodes = equal_to(alloc, snap, edge, value, reads)?;
+        found.extend_from_slice(nodes.as_slice())?;
+    }
+    Ok(Uids::gathered(found))
+}
+
+// The nodes whose number is one of some values. It reads the list of each distinct one.
+fn equal_to_any<S: Snapshot, L: Ledger>(
+    alloc: Global,
+    snap: &S,
+    edge: &QEdge,
+    values: &[Value],
+    reads: &mut Steps<L>,
+) -> Mem<Uids>
+    requires numbers { has_numbers (S.declared snap.now) edge.now.pred edge.now.back ≡ true }
+    ensures { IfOk result (λ uids. uids ≡ numbered (S.graph snap.now) edge.now (λ k. stands_to_any ops.Eq values.now (Int k))) }
+{
+    let asked = distinct(alloc, values)?;
+    equal_to_each(alloc, snap, edge, asked.as_slice(), reads)
+}
+
+// Those whose number stands so to one of some values.
+fn root_by_any_number<S: Snapshot, L: Ledger>(
+    alloc: Global,
+    snap: &S,
+    func: &Func,
+    op: CmpOp,
+    edge: &QEdge,
+    values: &[Value],
+    vars: &Vars,
+    reads: &mut Steps<L>,
+) -> Mem<Uids>
+    requires numbers { has_numbers (S.declared snap.now) edge.now.pred edge.now.back ≡ true }
+    requires count { (kind : Option Kind) × (func.now ≡ funcs.Cmp op (part.Count edge.now) kind values.now) }
+    ensures { IfOk result (λ uids. uids ≡ root_nodes (S.graph snap.now) vars.now.variables func.now) }
+{
+    match op {
+        CmpOp::Eq => equal_to_any(alloc, snap, edge, values, reads),
+        _ => root_by_search(alloc, snap, func, vars, reads),
+    }
+}
+
+// Those whose number stands so to a value, or to one of several.
+fn root_by_numbers<S: Snapshot, L: Ledger>(
+    alloc: Global,
+    snap: &S,
+    func: &Func,
+    op: CmpOp,
+    edge: &QEdge,
+    values: &[Value],
+    vars: &Vars,
+    reads: &mut Steps<L>,
+) -> Mem<Uids>
+    requires numbers { has_numbers (S.declared snap.now) edge.now.pred edge.now.back ≡ true }
+    requires count { (kind : Option Kind) × (func.now ≡ funcs.Cmp op (part.Count edge.now) kind values.now) }
+    ensures { IfOk result (λ uids. uids ≡ root_nodes (S.graph snap.now) vars.now.variables func.now) }
+{
+    match values {
+        [given] => root_by_number(alloc, snap, func, op, edge, given, vars, reads),
+        _ => root_by_any_number(alloc, snap, func, op, edge, values, vars, reads),
+    }
+}
+
+/// The nodes whose number of objects, or of subjects, stands so to one of some values. Where there are lists of nodes by
+/// their numbers it reads the list of each number that does, once, and no list of a node; for `ge` and `gt` those that don't,
+/// and all nodes with an object. Only by `eq` there are several values in a plan: with several by another comparison each
+/// node is asked.
 pub(crate) fn root_of_numbers<S: Snapshot, L: Ledger>(
     alloc: Global,
     snap: &S,
@@ -177,15 +277,10 @@ pub(crate) fn root_of_numbers<S: Snapshot, L: Ledger>(
     requires count { (kind : Option Kind) × (func.now ≡ funcs.Cmp op (part.Count edge.now) kind values.now) }
     ensures { IfOk result (λ uids. uids ≡ root_nodes (S.graph snap.now) vars.now.variables func.now) }
 {
-    match values {
-        [given] => {
-            if has_numbers(snap, edge.pred.as_str(), edge.back) {
-                root_by_number(alloc, snap, func, op, edge, given, vars, reads)
-            } else {
-                root_by_search(alloc, snap, func, vars, reads)
-            }
-        }
-        _ => root_by_search(alloc, snap, func, vars, reads),
+    if has_numbers(snap, edge.pred.as_str(), edge.back) {
+        root_by_numbers(alloc, snap, func, op, edge, values, vars, reads)
+    } else {
+        root_by_search(alloc, snap, func, vars, reads)
     }
 }
 

@@ -5,10 +5,11 @@ ghost use Rattle.dg_values.specs.Calendar.{truncated};
 ghost use Rattle.dg_values.specs.Instant.{IsInstant};
 ghost use Rattle.dg_graph.specs.Lookups.{is_indexed_by};
 ghost use Rattle.dg_funcs.specs.Filed.{filed_as, IsInYears};
+ghost use Rattle.dg_funcs.specs.Kinds.{declared_kind, keeps};
 
 use crate::indexes::is_indexed;
 use dg_graph::Snapshot;
-use dg_values::{DatePart, Mem, Moment, OutOfMemory, Tokenizer, Value, truncate};
+use dg_values::{DatePart, Kind, Mem, Moment, OutOfMemory, Tokenizer, Value, truncate};
 use std::alloc::Global;
 
 /// The tokenizer of the finest of a predicate's indexes of dates.
@@ -50,6 +51,47 @@ pub(crate) fn ordered_index<S: Snapshot>(snap: &S, p: &str, v: &Value) -> Option
         Value::Int(_) => index_by(snap, p, Tokenizer::Int),
         Value::Time(_) => date_index(snap, p),
         Value::Bool(_) => None,
+    }
+}
+
+// The tokenizer of indexes that list each value of a kind under itself, in order.
+fn keeping(kind: Kind) -> Option<Tokenizer>
+    ensures { IfSome result (λ t. keeps t (Some kind) ≡ true) }
+{
+    match kind {
+        Kind::Text => Some(Tokenizer::Exact),
+        Kind::Default => Some(Tokenizer::Exact),
+        Kind::Int => Some(Tokenizer::Int),
+        Kind::Bool => Some(Tokenizer::Bool),
+        Kind::Time => None,
+        Kind::Uid => None,
+    }
+}
+
+// The same of the kind that a predicate is declared with.
+fn keeping_of<S: Snapshot>(snap: &S, p: &str) -> Option<Tokenizer>
+    ensures { IfSome result (λ t. keeps t (declared_kind (S.declared snap.now) p.now) ≡ true) }
+{
+    match snap.schema().lookup(p) {
+        Some(definition) => keeping(definition.kind),
+        None => None,
+    }
+}
+
+/// The tokenizer of an index of the predicate that lists each value of its kind under itself, in order.
+pub(crate) fn own_index<S: Snapshot>(snap: &S, p: &str) -> Option<Tokenizer>
+    ensures indexed { IfSome result (λ t. is_indexed_by (S.declared snap.now) p.now t ≡ true) }
+    ensures own { IfSome result (λ t. keeps t (declared_kind (S.declared snap.now) p.now) ≡ true) }
+{
+    match keeping_of(snap, p) {
+        Some(tokenizer) => {
+            if is_indexed(snap, p, tokenizer) {
+                Some(tokenizer)
+            } else {
+                None
+            }
+        }
+        None => None,
     }
 }
 

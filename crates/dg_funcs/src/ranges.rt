@@ -5,6 +5,7 @@ ghost use Rattle.std.specs.Ordering.{is_le, is_ge};
 ghost use Rattle.dg_values.specs.declared.kind.Kind.{Kind};
 ghost use Rattle.dg_values.specs.declared.value.Value.TheVariants as values;
 ghost use Rattle.dg_values.specs.Instant.{Instant};
+ghost use Rattle.dg_graph.specs.Graphs.{IsLawful};
 ghost use Rattle.dg_graph.specs.Lookups.{is_indexed_by, by_token_range};
 ghost use Rattle.dg_check.specs.declared.parts.Func.TheVariants as funcs;
 ghost use Rattle.dg_check.specs.declared.parts.Of.TheVariants as part;
@@ -12,8 +13,7 @@ ghost use Rattle.dg_funcs.specs.Truth.{stands, holds_at};
 ghost use Rattle.dg_funcs.specs.Roots.{root_nodes};
 
 use crate::held::held;
-use crate::indexes::is_indexed;
-use crate::ordered::{date_index, filed_as, ordered_index};
+use crate::ordered::{date_index, filed_as, ordered_index, own_index};
 use crate::roots::root_by_search;
 use dg_check::{Func, Vars};
 use dg_graph::Snapshot;
@@ -121,8 +121,8 @@ pub(crate) fn root_of_between<S: Snapshot, L: Ledger>(
     }
 }
 
-// Those with a value below another, which is included or not. A number comes before all that is no number, so that an index
-// of numbers has each of them.
+// Those with a value below another, which is included or not, by an index of the values themselves. Moments are searched:
+// nothing says that those of a graph are of the years 0000 to 9999, and outside these dates don't keep their order.
 fn root_below<S: Snapshot, L: Ledger>(
     alloc: Global,
     snap: &S,
@@ -135,29 +135,21 @@ fn root_below<S: Snapshot, L: Ledger>(
 ) -> Mem<Uids>
     requires given { (kind : Option Kind) × (func.now ≡ funcs.Cmp op (part.Pred p.now) kind (given.now ∷ [])) }
     requires below { (o : Ordering) → stands op o ≡ true → is_le o ≡ true }
-    ensures { IfOk result (λ uids. uids ≡ root_nodes (S.graph snap.now) vars.now.variables func.now) }
+    ensures { IsLawful (S.declared snap.now) (S.graph snap.now) → IfOk result (λ uids. uids ≡ root_nodes (S.graph snap.now) vars.now.variables func.now) }
 {
-    match given {
-        Value::Int(_) => {
-            if is_indexed(snap, p, Tokenizer::Int) {
-                held_in_range(
-                    alloc,
-                    snap,
-                    func,
-                    p,
-                    Tokenizer::Int,
-                    None,
-                    Some(given),
-                    vars,
-                    reads,
-                )
-            } else {
-                root_by_search(alloc, snap, func, vars, reads)
-            }
-        }
-        Value::Text(_) => root_by_search(alloc, snap, func, vars, reads),
-        Value::Bool(_) => root_by_search(alloc, snap, func, vars, reads),
-        Value::Time(_) => root_by_search(alloc, snap, func, vars, reads),
+    match own_index(snap, p) {
+        Some(tokenizer) => held_in_range(
+            alloc,
+            snap,
+            func,
+            p,
+            tokenizer,
+            None,
+            Some(given),
+            vars,
+            reads,
+        ),
+        None => root_by_search(alloc, snap, func, vars, reads),
     }
 }
 
@@ -196,9 +188,9 @@ fn above_by_index<S: Snapshot, L: Ledger>(
     }
 }
 
-// Those with a value above another, which is included or not. A moment comes after all that is no moment, so that an index
-// of dates has each of them.
-fn root_above<S: Snapshot, L: Ledger>(
+// The same by the finest index of dates that there is. A moment comes after all that is no moment, so that an index of dates
+// has each of them, of whatever kind the predicate is.
+fn root_from_moment<S: Snapshot, L: Ledger>(
     alloc: Global,
     snap: &S,
     func: &Func,
@@ -225,6 +217,37 @@ fn root_above<S: Snapshot, L: Ledger>(
     }
 }
 
+// Those with a value above another, which is included or not, by an index of the values themselves or of dates.
+fn root_above<S: Snapshot, L: Ledger>(
+    alloc: Global,
+    snap: &S,
+    func: &Func,
+    op: CmpOp,
+    p: &str,
+    given: &Value,
+    vars: &Vars,
+    reads: &mut Steps<L>,
+) -> Mem<Uids>
+    requires given { (kind : Option Kind) × (func.now ≡ funcs.Cmp op (part.Pred p.now) kind (given.now ∷ [])) }
+    requires above { (o : Ordering) → stands op o ≡ true → is_ge o ≡ true }
+    ensures { IsLawful (S.declared snap.now) (S.graph snap.now) → IfOk result (λ uids. uids ≡ root_nodes (S.graph snap.now) vars.now.variables func.now) }
+{
+    match own_index(snap, p) {
+        Some(tokenizer) => held_in_range(
+            alloc,
+            snap,
+            func,
+            p,
+            tokenizer,
+            Some(given),
+            None,
+            vars,
+            reads,
+        ),
+        None => root_from_moment(alloc, snap, func, op, p, given, vars, reads),
+    }
+}
+
 // Those with a value that stands so to another.
 fn root_of_order<S: Snapshot, L: Ledger>(
     alloc: Global,
@@ -237,7 +260,7 @@ fn root_of_order<S: Snapshot, L: Ledger>(
     reads: &mut Steps<L>,
 ) -> Mem<Uids>
     requires given { (kind : Option Kind) × (func.now ≡ funcs.Cmp op (part.Pred p.now) kind (given.now ∷ [])) }
-    ensures { IfOk result (λ uids. uids ≡ root_nodes (S.graph snap.now) vars.now.variables func.now) }
+    ensures { IsLawful (S.declared snap.now) (S.graph snap.now) → IfOk result (λ uids. uids ≡ root_nodes (S.graph snap.now) vars.now.variables func.now) }
 {
     match op {
         CmpOp::Le => root_below(alloc, snap, func, op, p, given, vars, reads),
@@ -248,9 +271,9 @@ fn root_of_order<S: Snapshot, L: Ledger>(
     }
 }
 
-/// The nodes that have a value below a number, or a moment from another on: by a range of an index of numbers or of dates,
-/// and then one list for each node there. Of other comparisons each node with a value is asked: a text, say, also stands
-/// above each number, and no index of texts lists a number.
+/// The nodes that have a value below or above another, in a lawful graph. By an index that lists all values of the
+/// predicate's kind in order it reads the range up to the value, or from it on, and then one list for each node there; by an
+/// index of dates the same from a moment on. Else each node with a value is asked.
 pub(crate) fn root_of_compared<S: Snapshot, L: Ledger>(
     alloc: Global,
     snap: &S,
@@ -262,7 +285,7 @@ pub(crate) fn root_of_compared<S: Snapshot, L: Ledger>(
     reads: &mut Steps<L>,
 ) -> Mem<Uids>
     requires given { (kind : Option Kind) × (func.now ≡ funcs.Cmp op (part.Pred p.now) kind values.now) }
-    ensures { IfOk result (λ uids. uids ≡ root_nodes (S.graph snap.now) vars.now.variables func.now) }
+    ensures { IsLawful (S.declared snap.now) (S.graph snap.now) → IfOk result (λ uids. uids ≡ root_nodes (S.graph snap.now) vars.now.variables func.now) }
 {
     match values {
         [given] => root_of_order(alloc, snap, func, op, p, given, vars, reads),

@@ -1,6 +1,6 @@
 // The nodes that a function gives at a root.
 ghost use Rattle.std.specs.Prelude.{◌≡◌, ◌++◌, Option, option_to_list, filter_map, IfOk, OnOk};
-ghost use Rattle.dg_graph.specs.Graphs.{objects};
+ghost use Rattle.dg_graph.specs.Graphs.{objects, IsLawful};
 ghost use Rattle.dg_graph.specs.Lookups.{node_in, pointed_to};
 ghost use Rattle.dg_values.specs.declared.kind.Kind.{Kind};
 ghost use Rattle.dg_parse.specs.declared.query.CmpOp.TheVariants as ops;
@@ -49,8 +49,8 @@ fn nodes_among(alloc: Global, objects: &[Posting]) -> Mem<Vec<u64>>
     Ok(found)
 }
 
-// The nodes to which a subject points.
-fn ends_of<S: Snapshot, L: Ledger>(
+/// The nodes to which a subject points.
+pub(crate) fn ends_of<S: Snapshot, L: Ledger>(
     alloc: Global,
     snap: &S,
     p: &str,
@@ -227,7 +227,7 @@ fn root_of_comparison<S: Snapshot, L: Ledger>(
     reads: &mut Steps<L>,
 ) -> Mem<Uids>
     requires given { (kind : Option Kind) × (func.now ≡ funcs.Cmp op of.now kind values.now) }
-    ensures { IfOk result (λ uids. uids ≡ root_nodes (S.graph snap.now) vars.now.variables func.now) }
+    ensures { IsLawful (S.declared snap.now) (S.graph snap.now) → IfOk result (λ uids. uids ≡ root_nodes (S.graph snap.now) vars.now.variables func.now) }
 {
     match of {
         Of::Pred(p) => root_of_values(alloc, snap, func, op, p.as_str(), values, vars, reads),
@@ -248,7 +248,7 @@ fn root_of_values<S: Snapshot, L: Ledger>(
     reads: &mut Steps<L>,
 ) -> Mem<Uids>
     requires given { (kind : Option Kind) × (func.now ≡ funcs.Cmp op (part.Pred p.now) kind values.now) }
-    ensures { IfOk result (λ uids. uids ≡ root_nodes (S.graph snap.now) vars.now.variables func.now) }
+    ensures { IsLawful (S.declared snap.now) (S.graph snap.now) → IfOk result (λ uids. uids ≡ root_nodes (S.graph snap.now) vars.now.variables func.now) }
 {
     match op {
         CmpOp::Eq => root_of_equal(alloc, snap, func, p, values, vars, reads),
@@ -279,7 +279,7 @@ fn root_of_span<S: Snapshot, L: Ledger>(
     }
 }
 
-/// The nodes that a function gives at a root. The error is want of memory.
+/// The nodes that a function gives at a root, in a graph that is lawful under its schema. The error is want of memory.
 ///
 /// Where the schema keeps lists that serve, they are read, and then the objects of each node that they give, but for those
 /// rows that say it is told by the lists alone:
@@ -293,16 +293,18 @@ fn root_of_span<S: Snapshot, L: Ledger>(
 /// | `eq` by term | one for each distinct term of each value, where each has one |
 /// | `eq` by hour, day, month or year | one for each distinct hour, day, month or year of a value |
 /// | `between` by exact, int, hour, day, month or year | those of the range between the two, both included |
-/// | `le`, `lt` of a number, by int | those of the range up to the number |
-/// | `ge`, `gt` of a moment, by hour, day, month or year | those of the range from its hour, day, month or year on |
+/// | `le`, `lt` of one value, by exact, int or bool | those of the range up to the value |
+/// | `ge`, `gt` of one value, by exact, int or bool | those of the range from the value on |
+/// | `ge`, `gt` of one moment, by hour, day, month or year | those of the range from its hour, day, month or year on |
 /// | `anyofterms` by term | one for each distinct term; they tell alone |
 /// | `allofterms` by term | one for each distinct term |
-/// | `eq`, `le`, `lt` of `count` to one value, and `between`, with `@count` | one for each number that stands so; they tell alone |
+/// | `eq` of `count`, with `@count` | one for each distinct number; they tell alone |
+/// | `le`, `lt` of `count` to one value, and `between`, with `@count` | one for each number that stands so; they tell alone |
 /// | `ge`, `gt` of `count` to one value, with `@count` | one for each number that doesn't, and all nodes with an object; they tell alone |
 ///
 /// For all else each node that can pass is asked: each with an object of the predicate, or with a value of the variable. So
-/// for other comparisons of values, as a graph may have values of several kinds, which stand below or above those that the
-/// index lists.
+/// for `le` and `lt` of a moment: nothing says that the moments of a graph are of the years 0000 to 9999, and outside these
+/// hours, days, months and years don't keep their order.
 pub fn root<S: Snapshot, L: Ledger>(
     alloc: Global,
     snap: &S,
@@ -310,7 +312,7 @@ pub fn root<S: Snapshot, L: Ledger>(
     vars: &Vars,
     reads: &mut Steps<L>,
 ) -> Mem<Uids>
-    ensures { IfOk result (λ uids. uids ≡ root_nodes (S.graph snap.now) vars.now.variables func.now) }
+    ensures { IsLawful (S.declared snap.now) (S.graph snap.now) → IfOk result (λ uids. uids ≡ root_nodes (S.graph snap.now) vars.now.variables func.now) }
 {
     match func {
         Func::Uid(names) => named(alloc, vars, names.as_slice()),

@@ -8,4 +8,5 @@ mod tree;
 
 pub use answer::{AnswerText, answer_text};
 pub use fault::TreeFault;
+pub use text::{push, push_key, push_tree};
 pub use tree::{Field, Tree};

@@ -10,7 +10,7 @@ use Rattle.dg_check.specs.declared.parts.Of.TheVariants as part
 use Rattle.dg_funcs.specs.Truth.{holds_at}
 use Rattle.dg_funcs.specs.Roots.{root_nodes}
 use Rattle.dg_funcs.specs.Filed.{filed_as, IsInYears}
-use Rattle.dg_funcs.proofs.RangeLaws.{above_root}
+use Rattle.dg_funcs.proofs.RangeLaws.{after_root}
 use Rattle.dg_funcs.proofs.ranges.above_by_index.Goals as goal
 
 pub returns-in-Some : goal.returns-in-Some
@@ -29,5 +29,5 @@ returns-in-Some g c =
     let same : c.args.func.now ≡ funcs.Cmp op (part.Pred p) kind (Time m ∷ []) = c.requires.given.1 ∙ ap (λ v. funcs.Cmp op (part.Pred p) kind (v ∷ [])) c.requires.moment.1 in
     let e : filter (λ n. holds_at graph vars n c.args.func.now) (by_token_range graph p tokenizer (Some x) None) ≡ root_nodes graph vars c.args.func.now =
     subst (λ (f : Func). filter (λ n. holds_at graph vars n f) (by_token_range graph p tokenizer (Some x) None) ≡ root_nodes graph vars f) (sym same)
-    (above_root graph p vars kind op c.requires.above tokenizer m x filed i) in
+    (after_root graph p vars kind op c.requires.above tokenizer m x filed i) in
     subst (λ (ys : List ℕ). IfOk c.held_in_range.result (λ uids. uids ≡ ys)) e c.held_in_range.ensures

@@ -8,7 +8,7 @@ use Rattle.dg_funcs.proofs.RootLaws.{root_of_uid, root_of_has}
 use Rattle.dg_funcs.proofs.roots.root.Goals as goal
 
 pub returns-in-Uid : goal.returns-in-Uid
-returns-in-Uid g c =
+returns-in-Uid g c lawful =
     let graph = g.S.Snapshot.graph c.args.snap.now in
     let vars = c.args.vars.now.variables in
     let back = sym c.in-Uid.is in
@@ -17,7 +17,7 @@ returns-in-Uid g c =
     subst (λ (ys : List ℕ). IfOk c.named.result (λ uids. uids ≡ ys)) e c.named.ensures
 
 pub returns-in-Has : goal.returns-in-Has
-returns-in-Has g c =
+returns-in-Has g c lawful =
     let graph = g.S.Snapshot.graph c.args.snap.now in
     let vars = c.args.vars.now.variables in
     let back = sym c.in-Has.is in

@@ -1,0 +1,4 @@
+-- Lemmas on rows.
+pub mod KeepLemmas
+pub mod PartLaws
+pub mod RowLaws
