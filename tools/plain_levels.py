@@ -30,13 +30,15 @@ class Tree(NamedTuple):
 
 
 def sort_of(view: View, edge: Edge) -> Optional[str]:
-    """What an edge leads to: nodes, one node, or values; None where its predicate isn't declared."""
+    """What an edge leads to: nodes, one node, or values; None where its predicate isn't declared and it isn't followed backwards."""
     definition = view.schema.get(edge.predicate)
+    if edge.back:
+        return NODES
     if definition is None:
         return None
     if definition.kind != "uid":
         return VALUES
-    return NODES if edge.back or definition.is_list else ONE
+    return NODES if definition.is_list else ONE
 
 
 def along(view: View, edge: Edge, node: int) -> list[int]:
@@ -116,7 +118,7 @@ def under_edge(view: View, item: Followed, node: int) -> Union[str, Tree, list[T
     sort = sort_of(view, item.edge)
     if sort is None:
         return None
-    if sort == VALUES and not item.edge.back:
+    if sort == VALUES:
         return view.shown(item.edge.predicate, node)
     nodes = listed(view, item.arguments or [], item.directives, along(view, item.edge, node))
     trees: list[Tree] = [whole(view, item.fields or [], child) for child in nodes]
