@@ -1,8 +1,8 @@
-"""Queries of one flat level, answered plainly: each node is looked at by itself, in triples alone and without an index.
+"""Queries, answered plainly: each node is looked at by itself, in triples alone and without an index.
 
-Built are queries whose blocks each have a function, no argument and no directive but `@filter`, without variables, and
-with fields that are `uid` or a predicate with nothing behind it. Patterns are read as Python reads them, of a part of
-their language; `pattern_of` refuses the faults that are known and doesn't answer what it doesn't know.
+Built are queries whose blocks each have a function, without variables and with no directive but `@filter`: what their fields
+show stands in `plain_levels.py`. Patterns are read as Python reads them, of a part of their language; `pattern_of` refuses
+the faults that are known and doesn't answer what it doesn't know.
 """
 
 from __future__ import annotations
@@ -13,7 +13,24 @@ from collections.abc import Iterable, Iterator
 from typing import NamedTuple, Optional, Union
 
 from plain_graph import Definition, Graph, folded, terms
-from plain_queries import COMPARISONS, TERMS, Block, Count, Edge, Fault, Followed, Function, Part, Uid, Val, read_query
+from plain_levels import block_objects
+from plain_queries import (
+    COMPARISONS,
+    TERMS,
+    Aggregate,
+    Argument,
+    Block,
+    Count,
+    Directive,
+    Edge,
+    Fault,
+    Field,
+    Followed,
+    Function,
+    Part,
+    Val,
+    read_query,
+)
 from plain_tokens import Refusal
 from plain_values import NODE, TEXT, Posting, json_text, read_posting
 
@@ -44,31 +61,69 @@ def functions_in(part: Part) -> Iterator[Function]:
         yield from functions_in(below)
 
 
-def tested_in(block: Block) -> Iterator[Function]:
-    """The functions of a block's filter."""
-    for directive in block.directives:
+class Asked(NamedTuple):
+    """A place of a query that is checked: a function, at a root or not, an edge, or the arguments of a list."""
+
+    function: Optional[Function] = None
+    root: bool = False
+    edge: Optional[Edge] = None
+    arguments: Optional[list[Argument]] = None
+
+
+def places_of_list(arguments: Optional[list[Argument]], directives: list[Directive]) -> Iterator[Asked]:
+    """The places of the arguments and the filters of a list."""
+    yield Asked(arguments=arguments or [])
+    for directive in directives:
         if directive.filter is not None:
-            yield from functions_in(directive.filter)
+            yield from (Asked(function) for function in functions_in(directive.filter))
 
 
-def is_plain(function: Function) -> bool:
-    """Whether a function uses no variable."""
-    names_node = function.word in ("uid", "uid_in")
-    return not isinstance(function.of, Val) and not (names_node and any(isinstance(n, str) for n in function.values))
+def places_of_fields(fields: Optional[list[Field]]) -> Iterator[Asked]:
+    """The places of fields, in the order of the text."""
+    for field in fields or []:
+        item = field.item
+        if isinstance(item, (Count, Followed)):
+            yield Asked(edge=item.edge)
+        if isinstance(item, Followed):
+            yield from places_of_list(item.arguments, item.directives)
+            yield from places_of_fields(item.fields)
+
+
+def places_of(block: Block) -> Iterator[Asked]:
+    """The places of a block, in the order of the text."""
+    yield Asked(block.function, True)
+    yield from places_of_list(block.arguments, block.directives)
+    yield from places_of_fields(block.fields)
+
+
+def is_plain(place: Asked) -> bool:
+    """Whether a place uses no variable."""
+    function = place.function
+    if any(isinstance(argument.value, Val) for argument in place.arguments or []):
+        return False
+    names_node = function is not None and function.word in ("uid", "uid_in")
+    by_name = names_node and any(isinstance(node, str) for node in function.values)  # type: ignore[union-attr]
+    return not by_name and not (function is not None and isinstance(function.of, Val))
+
+
+def are_built(fields: Optional[list[Field]]) -> bool:
+    """Whether fields define no variable and use none, and no edge has a directive but filters."""
+    for variable, _, item in fields or []:
+        if variable or isinstance(item, (Val, Aggregate)):
+            return False
+        if isinstance(item, Followed) and not (only_filters(item.directives) and are_built(item.fields)):
+            return False
+    return True
+
+
+def only_filters(directives: list[Directive]) -> bool:
+    return all(directive.word == "filter" for directive in directives)
 
 
 def is_built(block: Block) -> bool:
-    if block.function is None or block.variable or block.arguments:
+    if block.function is None or block.variable or not only_filters(block.directives):
         return False
-    if any(directive.word != "filter" for directive in block.directives):
-        return False
-    if not all(is_plain(function) for function in (block.function, *tested_in(block))):
-        return False
-    for variable, _, item in block.fields:
-        is_bare = isinstance(item, Followed) and not item.edge.back and (item.arguments or [], *item[2:]) == ([], [], None)
-        if variable or not (is_bare or isinstance(item, Uid)):
-            return False
-    return True
+    return are_built(block.fields) and all(is_plain(place) for place in places_of(block))
 
 
 # ---------------------------------------------------------------------------------------------------
@@ -190,16 +245,39 @@ def bad_literal(schema: Schema, function: Function) -> Optional[Refusal]:
     return Refusal(10, "BadLiteral", function.of.edge.predicate if isinstance(function.of, Count) else function.of)
 
 
+def back_not_indexed(schema: Schema, edge: Edge) -> Optional[Refusal]:
+    """The refusal of an edge that is followed backwards and wasn't declared for it."""
+    definition = schema.get(edge.predicate)
+    if edge.back and definition is not None and not definition.has_reverse:
+        return Refusal(9, "NotIndexed", edge.predicate, "~")
+    return None
+
+
+def bad_page(arguments: list[Argument]) -> Optional[Refusal]:
+    """The refusal of the first argument that can't stand where it does."""
+    has_order = any(argument.word.startswith("order") for argument in arguments)
+    seen: set[str] = set()
+    for word, value in arguments:
+        twice = word in seen and not word.startswith("order")
+        seen.add(word)
+        below = word == "offset" and value < 0 or word == "first" and has_order and value < 0  # type: ignore[operator]
+        if twice or below or word == "after" and has_order:
+            return Refusal(11, "BadPage", word)
+    return None
+
+
+def index_fault(schema: Schema, place: Asked) -> Optional[Refusal]:
+    if place.edge is not None:
+        return back_not_indexed(schema, place.edge)
+    return None if place.function is None else not_indexed(schema, place.function, place.root)
+
+
 def check(schema: Schema, blocks: list[Block]) -> None:
-    """Refuses the first fault of the text: of what isn't indexed before literals."""
-    places = [
-        (function, place == 0)
-        for block in blocks
-        for place, function in enumerate([block.function, *tested_in(block)])
-        if function is not None
-    ]
-    refusals = [not_indexed(schema, function, root) for function, root in places]
-    refusals += [bad_literal(schema, function) for function, _ in places]
+    """Refuses the first fault of the text: of what isn't indexed before literals, and of these before arguments."""
+    places = [place for block in blocks for place in places_of(block)]
+    refusals = [index_fault(schema, place) for place in places]
+    refusals += [bad_literal(schema, place.function) for place in places if place.function is not None]
+    refusals += [bad_page(place.arguments) for place in places if place.arguments is not None]
     for refusal in refusals:
         if refusal is not None:
             raise refusal
@@ -314,25 +392,8 @@ class View:
             return None
         return f"[{','.join(values)}]" if self.schema[name].is_list else values[0]
 
-    def tree(self, block: Block, node: int) -> str:
-        """A node as a block shows it; nothing where no field is shown."""
-        pairs = []
-        for _, alias, item in block.fields:
-            name = item.edge.predicate if isinstance(item, Followed) else "uid"
-            said = self.shown(name, node) if isinstance(item, Followed) else f'"{hex(node)}"'
-            if said is not None:
-                pairs.append(f'"{alias or name}":{said}')
-        return f"{{{','.join(pairs)}}}" if pairs else ""
-
-    def nodes(self, block: Block) -> list[int]:
-        """The nodes of a block."""
-        assert block.function is not None
-        filters = [directive.filter for directive in block.directives if directive.filter is not None]
-        return [node for node in self.root(block.function) if all(self.passes(part, node) for part in filters)]
-
     def block(self, block: Block) -> str:
-        trees = [self.tree(block, node) for node in self.nodes(block)]
-        return f'"{block.name}":[{",".join(tree for tree in trees if tree)}]'
+        return f'"{block.name}":[{",".join(block_objects(self, block))}]'
 
     def answer(self, blocks: list[Block]) -> str:
         return f'{{"data":{{{",".join(self.block(block) for block in blocks if block.name != "var")}}}}}'

@@ -96,9 +96,9 @@ PATTERNS = ["red", "^R", "d$", "r.d", "[a-c]a", "[^a-z ]", "ca?r", "o*x", "é", 
 PATTERNS += ["カ", r"\/", "^$", "[A-C]+", "s", "k", "5½ ?Ⅷ", "."]
 BAD_PATTERNS = ["(", ")", "[a", "*a", "a)", r"a\1", "a(b"]
 # Queries that aren't built, behind their root.
-OTHER_FORMS = ["{ name { uid } }", "{ ~friend }", "{ count(friend) }", "{ x as name }", "{ name() }", "{ count(uid) }"]
-OTHER_FORMS += ["@cascade { name }", "@normalize { n: name }", "@recurse(depth: 3) { name }", "@filter(uid(x)) { uid }"]
-OTHER_FORMS += ["@filter(eq(val(x), 1)) { x as age }", "{ name @filter(has(age)) }", "@filter(uid_in(boss, x)) { uid }"]
+OTHER_FORMS = ["{ x as name }", "{ x as friend { name } }", "{ val(x) }", "{ friend @cascade { name } }", "@cascade { name }"]
+OTHER_FORMS += ["@normalize { n: name }", "@recurse(depth: 3) { name }", "@filter(uid(x)) { uid }"]
+OTHER_FORMS += ["@filter(eq(val(x), 1)) { x as age }", "@filter(uid_in(boss, x)) { uid }", "{ friend (orderasc: val(x)) { uid } }"]
 UNBUILT = ["line", "state", "roll name", "rollplan x.y", "movestart name 2", "moveoff friend"]
 DIRECTIVES = ["@index", "@reverse", "@count", "@upsert", "@index(exact)", "@index(term, trigram)", "@index(int)"]
 DIRECTIVES += ["@index(year, year)", "@index(bool,)", "@lang"]
@@ -260,17 +260,55 @@ class Draw(random.Random):
         inner = self.choice([" and ", " or ", " Or "]).join(self.filter(depth - 1) for _ in range(2))
         return self.choice(["({})", "({})", "not ({})", "{}"]).format(inner)
 
+    def argument(self, has_order: bool) -> str:
+        """An argument of a list that isn't ordered, or now and then of one that is; seldom one that can't stand there."""
+        least = 0 if has_order and not self.one_in(20) else -3
+        return self.choice(
+            [
+                f"first: {self.choice(range(least, 4))}",
+                f"offset: {self.choice(range(-1 if self.one_in(10) else 0, 4))}",
+                f"after: {hex(self.choice(NODES))}" if not has_order or self.one_in(20) else "offset: 1",
+            ]
+        )
+
+    def arguments(self) -> list[str]:
+        """The arguments of a list of nodes, now and then twice the same."""
+        orders = [f"{self.choice(['orderasc', 'orderdesc'])}: {self.predicate()}" for _ in range(self.choice([0, 0, 1, 2]))]
+        pages = [self.argument(bool(orders)) for _ in range(self.choice([0, 0, 1, 2]))]
+        if not self.one_in(20):
+            pages = list({page.partition(":")[0]: page for page in pages}.values())
+        said = orders + pages
+        self.shuffle(said)
+        return said
+
+    def tested(self, most: float) -> str:
+        return f" @filter({self.filter()})" if self.one_in(most) else ""
+
+    def edge_field(self, depth: int) -> str:
+        """An edge with what stands behind it, so deep at most."""
+        arguments = self.arguments() if self.one_in(2) else []
+        brackets = f"({', '.join(arguments)})" if arguments or self.one_in(20) else ""
+        braces = "" if self.one_in(15) else f" {{ {self.fields(depth - 1)} }}"
+        return f"{self.edge()}{brackets}{self.tested(4)}{braces}"
+
+    def fields(self, depth: int) -> str:
+        """Fields, seldom two under one key, with edges so deep at most."""
+        names = self.sample([*PREDICATES, "nick"], self.choice([0, 1, 1, 2, 3, 6]))
+        names += [] if self.one_in(4) else ["uid"]
+        names += [f"count({self.choice(['uid', self.edge()])})"] if self.one_in(5) else []
+        same = ["uid: ", "name: "] if self.one_in(4) else []
+        aliases = self.sample(["n: ", "o:", *same, *[""] * 12], len(names))
+        said = [alias + name for alias, name in zip(aliases, names)]
+        said += [f"e{place}: {self.edge_field(depth)}" for place in range(self.choice([0, 0, 1, 2]) if depth else 0)]
+        return self.choice([" ", ", "]).join(said)
+
     def block(self, name: str) -> str:
         root = self.function(True)
         if self.one_in(30):
             return f"{name}(func: {root}) {self.choice(OTHER_FORMS)}"
-        tested = f" @filter({self.filter()})" if self.one_in(2.5) else ""
-        names = self.sample([*PREDICATES, "nick"], self.choice([0, 1, 2, 3, 6]))
-        names += [] if self.one_in(4) else ["uid"]
-        same = ["uid: ", "name: "] if self.one_in(4) else []
-        aliases = self.sample(["n: ", "o:", *same, *[""] * 12], len(names))
-        fields = self.choice([" ", ", "]).join(alias + name for alias, name in zip(aliases, names))
-        return f"{name}(func: {root}){tested} {{ {fields} }}"
+        arguments = self.arguments() if self.one_in(3) else []
+        said = ", ".join([f"func: {root}", *arguments])
+        return f"{name}({said}){self.tested(2.5)} {{ {self.fields(self.choice([0, 0, 1, 2, 3]))} }}"
 
     def query(self) -> str:
         if self.one_in(6):

@@ -143,8 +143,8 @@ QUERY = "`{ q(func: uid(0x1)) { name } }`"
 FORMS = {"alter": DEFINITION, "mutate": STATEMENT, "query": QUERY}
 # What is built where a request is answered 98.
 BUILT_FORMS = {
-    "query": "built are blocks as in `{ q(func: eq(name, \"Ann\")) @filter(has(age)) { uid name } }`: a function, one "
-    "@filter or none, and fields that are uid or a predicate, with an alias or without; no arguments and variables",
+    "query": "built are queries as in `{ q(func: eq(name, \"Ann\"), first: 5) @filter(has(age)) { name friend { name } } }`: functions, "
+    "filters, edges, counts, orders and pages; no variables, aggregates, @cascade, @normalize and @recurse",
 }
 BUILT_VERBS = f"built are {', '.join(verb.line for verb in BUILT)}"
 

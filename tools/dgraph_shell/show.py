@@ -65,6 +65,26 @@ def cell_of(value: Any) -> str:
     return visible(json.dumps(value, ensure_ascii=False, separators=(",", ":")))
 
 
+def objects_in(value: Any) -> list[dict[str, Any]]:
+    """The objects that stand under a key; none where it has a value or values."""
+    found = value if isinstance(value, list) else [value]
+    return found if all(isinstance(one, dict) for one in found) else []
+
+
+def lines_of(row: dict[str, Any]) -> list[dict[str, Any]]:
+    """A row with a line for each object below it, under keys with a dot between any two; its own values in the first line."""
+    lines: list[dict[str, Any]] = [{}]
+    for key, value in row.items():
+        below = [line for one in objects_in(value) for line in lines_of(one)]
+        if not below:
+            lines[0][key] = value
+        for place, line in enumerate(below):
+            if place == len(lines):
+                lines.append({})
+            lines[place].update({f"{key}.{name}": cell for name, cell in line.items()})
+    return lines
+
+
 def columns_of(rows: Sequence[dict[str, Any]]) -> list[str]:
     """The keys of rows, of which each has some in one order: a new one stands behind the key before it in its row."""
     columns: list[str] = []
@@ -78,12 +98,13 @@ def columns_of(rows: Sequence[dict[str, Any]]) -> list[str]:
 
 
 def table_of(rows: Sequence[dict[str, Any]]) -> list[str]:
-    """The lines of a table with a column for each key."""
-    columns = columns_of(rows)
-    cells = [[cell_of(row[key]) if key in row else "" for key in columns] for row in rows]
+    """The lines of a table with a column for each key, also of objects below a row."""
+    lines = [line for row in rows for line in lines_of(row)]
+    columns = columns_of(lines)
+    cells = [[cell_of(line[key]) if key in line else "" for key in columns] for line in lines]
     widths = [max(map(width_of, column)) for column in zip(columns, *cells)]
     rules = ["-" * width for width in widths]
-    return ["  ".join(map(padded, line, widths)).rstrip() for line in [columns, rules, *cells]]
+    return ["  ".join(map(padded, cells_of_line, widths)).rstrip() for cells_of_line in [columns, rules, *cells]]
 
 
 def padded(text: str, width: int) -> str:

@@ -1,4 +1,4 @@
-"""Queries of one flat level, as they are answered plainly."""
+"""Queries, as they are answered plainly."""
 
 from __future__ import annotations
 
@@ -92,10 +92,10 @@ class Answers(unittest.TestCase):
 
     def test_refusals_in_their_order(self) -> None:
         for query, refusal in {
-            "{ q(func: eq(bare, 1)) { name { uid } } !": "3 BadToken 40",
+            "{ q(func: eq(bare, 1)) @cascade { name } !": "3 BadToken 41",
             "{" * 33 + "x": "5 TooDeep 32",
-            "{ q(func: eq(bare, 1)) { name { uid } }": "4 BadSyntax 39",
-            "{ q(func: eq(bare, 1)) { name { uid } } }": "98 Unbuilt",
+            "{ q(func: eq(bare, 1)) @cascade { name }": "4 BadSyntax 40",
+            "{ q(func: eq(bare, 1)) @cascade { name } }": "98 Unbuilt",
             '{ q(func: eq(age, "x")) { uid } r(func: eq(bare, 1)) { uid } }': "9 NotIndexed bare eq",
             '{ q(func: eq(age, "x")) @filter(has(~boss)) { uid } }': "9 NotIndexed boss ~",
             "{ q(func: eq(count(boss), 1)) { uid } }": "9 NotIndexed boss count",
@@ -108,11 +108,60 @@ class Answers(unittest.TestCase):
             self.assertEqual(self.reply(query), f"error {refusal}", query)
         self.assertEqual(plain.run(b"query 1 1\n!\n").replies, [b"error 1 NoSession 1\n"])
 
+    def test_nested(self) -> None:
+        for fields, shown in {
+            "friend { name }": '[{"friend":[{"name":"Bob"},{"name":"ann"}]},{"friend":[{"name":"ann"}]}]',
+            "friend { friend { uid } }": '[{"friend":[{"friend":[{"uid":"0x3"}]}]}]',
+            "~friend { count(uid) n: name }": '[{"~friend":[{"count":0}]},{"~friend":[{"count":1},{"n":"Ann Lee"}]},'
+                                              '{"~friend":[{"count":2},{"n":"Ann Lee"},{"n":"Bob"}]}]',
+            "boss { name }": '[{"boss":{"name":"Ann Lee"}}]',
+            "boss { count(uid) }": '[{"boss":[{"count":0}]},{"boss":[{"count":1}]},{"boss":[{"count":0}]}]',
+            "friend": "[]",
+            "friend { }": "[]",
+            "name { friend }": '[{"name":"Ann Lee"},{"name":"Bob"},{"name":"ann"}]',
+            "nope { uid }": "[]",
+            "count(friend)": '[{"count(friend)":2},{"count(friend)":1},{"count(friend)":0}]',
+            "count(uid)": '[{"count":3}]',
+            "f: friend (orderdesc: name, first: 1) { uid }": '[{"f":[{"uid":"0x3"}]},{"f":[{"uid":"0x3"}]}]',
+            "friend (after: 0x2) { uid }": '[{"friend":[{"uid":"0x3"}]},{"friend":[{"uid":"0x3"}]}]',
+            "friend @filter(has(age)) { uid }": '[{"friend":[{"uid":"0x2"}]}]',
+        }.items():
+            self.assertEqual(self.reply(f"{{ q(func: has(name)) {{ {fields} }} }}"), f'{{"data":{{"q":{shown}}}}}', fields)
+
+    def test_lists(self) -> None:
+        for arguments, nodes in {
+            "orderasc: age": [2, 1, 3],
+            "orderdesc: age": [1, 2, 3],
+            "orderasc: bare, orderdesc: name": [3, 2, 1],
+            "orderasc: nope, orderasc: friend": [1, 2, 3],
+            "first: 2": [1, 2],
+            "first: -2": [2, 3],
+            "first: 0": [],
+            "offset: 1, first: 1": [2],
+            "offset: 9": [],
+            "after: 0x1, offset: 1": [3],
+            "orderasc: age, first: 1, offset: 1": [1],
+        }.items():
+            answer = ",".join(f'{{"uid":"{hex(node)}"}}' for node in nodes)
+            self.assertEqual(self.reply(f"{{ q(func: has(name), {arguments}) {{ uid }} }}"), f'{{"data":{{"q":[{answer}]}}}}')
+
+    def test_arguments_that_cant_stand(self) -> None:
+        for arguments, word in {
+            "first: 1, first: 2": "first",
+            "offset: -1": "offset",
+            "first: -1, orderasc: name": "first",
+            "after: 0x1, orderasc: name": "after",
+            "offset: 1, first: 1, offset: 2, after: 0x1, after: 0x2": "offset",
+        }.items():
+            self.assertEqual(self.reply(f"{{ q(func: has(name), {arguments}) {{ uid }} }}"), f"error 11 BadPage {word}")
+            inner = self.reply(f"{{ q(func: has(name), first: 1) {{ friend ({arguments}) {{ uid }} }} }}")
+            self.assertEqual(inner, f"error 11 BadPage {word}")
+
     def test_forms_that_arent_built(self) -> None:
-        for form in ("{ name {} }", "{ ~friend }", "{ count(friend) }", "{ count(uid) }", "{ x as age }",
-                     "{ val(x) }", "@cascade { name }", "@filter(uid(x)) { uid }", "@filter(uid_in(boss, x)) { uid }"):
+        for form in ("{ x as age }", "{ val(x) }", "@cascade { name }", "{ friend @cascade { name } }", "@normalize { n: name }",
+                     "@recurse(depth: 2) { name }", "@filter(uid(x)) { uid }", "@filter(uid_in(boss, x)) { uid }"):
             self.assertEqual(self.reply(f"{{ q(func: has(name)) {form} }}"), "error 98 Unbuilt", form)
-        for query in ("{ q() {} }", "{ x as q(func: has(name)) {} }", "{ q(func: has(name), first: 1) {} }"):
+        for query in ("{ q() {} }", "{ x as q(func: has(name)) {} }", "{ q(func: has(name), orderasc: val(x)) {} }"):
             self.assertEqual(self.reply(query), "error 98 Unbuilt", query)
         by_itself = self.reply("{ q(func: has(name)) { name } }")
         self.assertEqual(self.reply("{ q(func: has(name)) { name() } }"), by_itself)

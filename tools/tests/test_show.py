@@ -79,6 +79,23 @@ class Showing(unittest.TestCase):
             ],
         )
 
+    def test_tables_of_nested_objects(self) -> None:
+        rows = [
+            {"name": "Ann", "friend": [{"name": "Bob", "boss": {"uid": "0x9"}}, {"name": "Cid"}], "tags": ["a"], "~friend": [{"count": 1}]},
+            {"name": "Dan", "friend": [{"count": 0}]},
+        ]
+        self.assertEqual(
+            tables_of({"q": rows}),
+            [
+                "q: 2 rows",
+                "    name  friend.count  friend.name  friend.boss.uid  tags   ~friend.count",
+                "    ----  ------------  -----------  ---------------  -----  -------------",
+                '    Ann                 Bob          0x9              ["a"]  1',
+                "                        Cid",
+                "    Dan   0",
+            ],
+        )
+
     def test_a_table_has_a_column_a_key_in_the_order_of_the_query(self) -> None:
         rows = [{"uid": "0x1", "age": 30}, {"uid": "0x2", "name": "Bob", "age": -4, "tags": ["a", "b"]}]
         self.assertEqual(tables_of({"q": rows, "r": [{"age": 1}, {"name": "", "age": 2}]}), [

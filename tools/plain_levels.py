@@ -1,0 +1,248 @@
+"""What fields show of nodes, node by node: whole trees first, then what `@cascade` and `@normalize` leave of them, and last
+what is shown.
+
+A whole tree has each node of a list, also one of which nothing is shown. `View` of `plain_answers.py` looks at the graph.
+"""
+
+from __future__ import annotations
+
+from collections.abc import Iterable
+from typing import TYPE_CHECKING, NamedTuple, Optional, Union
+
+from plain_queries import Argument, Block, Count, CountUid, Directive, Edge, Field, Followed, Uid
+from plain_values import NODE, Posting
+
+if TYPE_CHECKING:
+    from plain_answers import View
+
+NODES, ONE, VALUES = "nodes", "one", "values"
+
+
+class Tree(NamedTuple):
+    """A node with what stands under its keys: a text as it is shown, one node, or nodes."""
+
+    under: dict[str, Union[str, "Tree", list["Tree"]]]
+
+
+# ---------------------------------------------------------------------------------------------------
+# Lists of nodes
+# ---------------------------------------------------------------------------------------------------
+
+
+def sort_of(view: View, edge: Edge) -> Optional[str]:
+    """What an edge leads to: nodes, one node, or values; None where its predicate isn't declared and it isn't followed backwards."""
+    definition = view.schema.get(edge.predicate)
+    if edge.back:
+        return NODES
+    if definition is None:
+        return None
+    if definition.kind != "uid":
+        return VALUES
+    return NODES if definition.is_list else ONE
+
+
+def along(view: View, edge: Edge, node: int) -> list[int]:
+    """The nodes at the other end of an edge, ascending."""
+    if edge.back:
+        return sorted({subject for subject, posting in view.triples(edge.predicate) if posting == Posting(NODE, node)})
+    return sorted(posting.key for posting in view.objects(edge.predicate, node) if posting.rank == NODE)  # type: ignore[misc]
+
+
+def least(view: View, name: str, node: int) -> Optional[Posting]:
+    """The least value of a node."""
+    return min((posting for posting in view.objects(name, node) if posting.rank != NODE), default=None)
+
+
+def ordered(view: View, arguments: Iterable[Argument], nodes: list[int]) -> list[int]:
+    """Nodes in the order that arguments ask for; those without a value come last, and the number decides at the end."""
+    nodes = sorted(nodes)
+    keys = [argument for argument in arguments if argument.word.startswith("order")]
+    for key in reversed(keys):
+        assert isinstance(key.value, str)
+        values = {node: least(view, key.value, node) for node in nodes}
+        there = [node for node in nodes if values[node] is not None]
+        there.sort(key=lambda node: values[node], reverse=key.word == "orderdesc")  # type: ignore[arg-type, return-value]
+        nodes = there + [node for node in nodes if values[node] is None]
+    return nodes
+
+
+def paged(arguments: Iterable[Argument], nodes: list[int]) -> list[int]:
+    """The page of a list that arguments ask for."""
+    said = {argument.word: argument.value for argument in reversed(list(arguments))}
+    if "after" in said:
+        nodes = [node for node in nodes if node > said["after"]]  # type: ignore[operator]
+    nodes = nodes[max(said.get("offset", 0), 0) :]  # type: ignore[call-overload, misc]
+    if "first" in said:
+        first = said["first"]
+        nodes = nodes[:first] if first >= 0 else nodes[first:]  # type: ignore[misc, operator]
+    return nodes
+
+
+def listed(view: View, arguments: Iterable[Argument], directives: Iterable[Directive], nodes: list[int]) -> list[int]:
+    """A list of nodes: those that pass the filters, in order, and of them the page."""
+    filters = [directive.filter for directive in directives if directive.filter is not None]
+    passed = [node for node in nodes if all(view.passes(part, node) for part in filters)]
+    return paged(arguments, ordered(view, arguments, passed))
+
+
+# ---------------------------------------------------------------------------------------------------
+# Whole trees
+# ---------------------------------------------------------------------------------------------------
+
+
+def key_of(field: Field) -> str:
+    """The key under which a field is shown."""
+    item = field.item
+    if field.alias:
+        return field.alias
+    if isinstance(item, Uid):
+        return "uid"
+    if isinstance(item, CountUid):
+        return "count"
+    assert isinstance(item, (Count, Followed))
+    edge = ("~" if item.edge.back else "") + item.edge.predicate
+    return f"count({edge})" if isinstance(item, Count) else edge
+
+
+def asks(directives: Iterable[Directive], word: str) -> bool:
+    return any(directive.word == word for directive in directives)
+
+
+def counts_in(fields: Optional[list[Field]]) -> list[str]:
+    """The keys under which the number of nodes of a list is asked."""
+    return [key_of(field) for field in fields or [] if isinstance(field.item, CountUid)]
+
+
+def under_edge(view: View, item: Followed, node: int) -> Union[str, Tree, list[Tree], None]:
+    """What stands under an edge of a node."""
+    sort = sort_of(view, item.edge)
+    if sort is None:
+        return None
+    if sort == VALUES:
+        return view.shown(item.edge.predicate, node)
+    nodes = listed(view, item.arguments or [], item.directives, along(view, item.edge, node))
+    trees: list[Tree] = [whole(view, item.fields or [], child) for child in nodes]
+    if asks(item.directives, "cascade"):
+        trees = remaining(item.fields or [], trees)
+    if sort == ONE and not counts_in(item.fields):
+        return trees[0] if trees else None
+    return trees
+
+
+def whole(view: View, fields: list[Field], node: int) -> Tree:
+    """The whole tree of a node."""
+    under: dict[str, Union[str, Tree, list[Tree]]] = {}
+    for field in fields:
+        item, found = field.item, None
+        if isinstance(item, Uid):
+            found: Union[str, Tree, list[Tree], None] = f'"{hex(node)}"'
+        elif isinstance(item, Count):
+            found = str(view.ends(item.edge, node))
+        elif isinstance(item, Followed):
+            found = under_edge(view, item, node)
+        if found is not None:
+            under[key_of(field)] = found
+    return Tree(under)
+
+
+# ---------------------------------------------------------------------------------------------------
+# What is left of them, and what is shown
+# ---------------------------------------------------------------------------------------------------
+
+
+def remaining(fields: list[Field], trees: Iterable[Tree]) -> list[Tree]:
+    """What a cascade leaves of nodes."""
+    return [tree for tree in (cascaded(fields, tree) for tree in trees) if tree is not None]
+
+
+def cascaded(fields: list[Field], tree: Tree) -> Optional[Tree]:
+    """A node without the nodes below it that lack something; None where it lacks something itself."""
+    under: dict[str, Union[str, Tree, list[Tree]]] = {}
+    for field in fields:
+        if isinstance(field.item, CountUid):
+            continue
+        found: Union[str, Tree, list[Tree], None] = tree.under.get(key_of(field))
+        if isinstance(field.item, Followed) and found is not None and not isinstance(found, str):
+            inner = field.item.fields or []
+            left = remaining(inner, [found] if isinstance(found, Tree) else found)
+            found = (left[0] if isinstance(found, Tree) else left) if left else None
+        if found is None:
+            return None
+        under[key_of(field)] = found
+    return Tree(under)
+
+
+def shown(fields: list[Field], tree: Tree) -> list[str]:
+    """The texts of the fields of a node that are shown."""
+    texts = []
+    for field in fields:
+        found = tree.under.get(key_of(field))
+        if isinstance(field.item, CountUid) or found is None:
+            continue
+        if isinstance(field.item, Followed) and not isinstance(found, str):
+            inner = field.item.fields or []
+            if isinstance(found, Tree):
+                below = shown(inner, found)
+                found = f"{{{','.join(below)}}}" if below else ""
+            else:
+                objects = array(inner, found)
+                found = f"[{','.join(objects)}]" if objects else ""
+        if found:
+            texts.append(f"{json_key(key_of(field))}:{found}")
+    return texts
+
+
+def json_key(key: str) -> str:
+    return f'"{key}"'
+
+
+def array(fields: Optional[list[Field]], trees: list[Tree]) -> list[str]:
+    """The objects of a list: the number of its nodes under each key that asks it, then the nodes that show something."""
+    objects = [f"{{{json_key(key)}:{len(trees)}}}" for key in counts_in(fields)]
+    texts = [shown(fields or [], tree) for tree in trees]
+    return objects + [f"{{{','.join(fields)}}}" for fields in texts if fields]
+
+
+Pairs = dict[str, str]
+
+
+def product(objects: list[Pairs], others: list[Pairs]) -> list[Pairs]:
+    """Each object followed by each of the others; the objects alone where there are no others."""
+    if not others:
+        return objects
+    return [joined(one, other) for one in objects for other in others]
+
+
+def joined(one: Pairs, more: Pairs) -> Pairs:
+    """An object with the pairs of another of which it doesn't have the key."""
+    return {**one, **{key: text for key, text in more.items() if key not in one}}
+
+
+def flat(fields: list[Field], tree: Tree) -> list[Pairs]:
+    """The flat objects of a node, of the fields with an alias."""
+    objects: list[Pairs] = [{}]
+    for field in fields:
+        found = tree.under.get(key_of(field))
+        if isinstance(field.item, CountUid) or found is None:
+            continue
+        if isinstance(found, str):
+            pairs = {field.alias: found} if field.alias else {}
+            objects = [joined(one, pairs) for one in objects]
+            continue
+        assert isinstance(field.item, Followed)
+        children = [found] if isinstance(found, Tree) else found
+        objects = product(objects, [pairs for child in children for pairs in flat(field.item.fields or [], child)])
+    return [one for one in objects if one]
+
+
+def block_objects(view: View, block: Block) -> list[str]:
+    """The objects of a block's array."""
+    assert block.function is not None
+    nodes = listed(view, block.arguments, block.directives, view.root(block.function))
+    trees = [whole(view, block.fields, node) for node in nodes]
+    if asks(block.directives, "cascade"):
+        trees = remaining(block.fields, trees)
+    if asks(block.directives, "normalize"):
+        flats = [pairs for tree in trees for pairs in flat(block.fields, tree)]
+        return [f"{{{','.join(f'{json_key(key)}:{text}' for key, text in pairs.items())}}}" for pairs in flats]
+    return array(block.fields, trees)

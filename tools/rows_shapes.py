@@ -1,0 +1,264 @@
+#!/usr/bin/env python3
+"""Prints the rows of crates/table_shapes: `rows_shapes.py stdin` the rows, `rows_shapes.py stdout` with their answers.
+
+Lists of nodes and whole trees are random. The answers come from `plain_levels.py`, which goes node by node.
+"""
+
+from __future__ import annotations
+
+import random
+import sys
+from collections.abc import Iterator
+from typing import Optional, Union
+
+from plain_levels import Tree, counts_in, flat, key_of, remaining, shown
+from plain_queries import Count, CountUid, Field, Followed, Uid, read_query
+from plain_values import read_posting
+
+SEED = 30
+KINDS = {"text": "string", "int": "int", "bool": "bool", "time": "dateTime"}
+LONGEST = 16_777_216
+
+# ---------------------------------------------------------------------------------------------------
+# Lists of nodes
+# ---------------------------------------------------------------------------------------------------
+
+HAND_ORDERS = [
+    "order\t3 1 2",
+    "order\t",
+    "order\t3 1 2\tup 1=int:5 2=int:5 3=int:5",
+    "order\t1 2 3 4\tup 2=int:1 4=int:0",
+    "order\t1 2 3 4\tdown 2=int:1 4=int:0",
+    "order\t1 2 3 4\tdown 1=text:a 2=text:b 3=text:a\tup 1=int:2 3=int:1",
+    "order\t1 2 3 4\tdown 1=text:a 2=text:b 3=text:a\tdown 1=int:2 3=int:1",
+    "order\t1 2 3\tup 1=bool:true 2=bool:false 9=bool:false",
+    "order\t1 2 3\tdown 1=time:2001-01-01 2=time:2001-01-01T00:00:01Z 3=time:2000-12-31",
+    "order\t1 2 3\tup 1=text:b 2=int:7 3=bool:false",
+    "order\t5 5 1 5",
+    "order\t1 x",
+    "order\t1 2\tsideways 1=int:1",
+    "order\t1 2\tup 2=int:1 1=int:2",
+    "order\t1 2\tup 1=int:x",
+]
+HAND_PAGES = [
+    "page\t1 2 3 4 5\t",
+    "page\t1 2 3 4 5\tfirst:2",
+    "page\t1 2 3 4 5\tfirst:-2",
+    "page\t1 2 3 4 5\tfirst:0",
+    "page\t1 2 3 4 5\tfirst:-9",
+    "page\t1 2 3 4 5\tfirst:9223372036854775807",
+    "page\t1 2 3 4 5\tfirst:-9223372036854775808",
+    "page\t1 2 3 4 5\toffset:2",
+    "page\t1 2 3 4 5\toffset:5",
+    "page\t1 2 3 4 5\toffset:9223372036854775807",
+    "page\t1 2 3 4 5\toffset:-1",
+    "page\t1 2 3 4 5\tafter:2",
+    "page\t1 2 3 4 5\tafter:0",
+    "page\t1 2 3 4 5\tafter:18446744073709551615",
+    "page\t9 7 8 1 2\tafter:2 offset:1 first:1",
+    "page\t9 7 8 1 2\tfirst:-1 offset:1 after:2",
+    "page\t9 7 8 1 2\tfirst:1 first:2 offset:3 offset:1",
+    "page\t1 2\tfirst:x",
+    "page\t1 2\tlast:1",
+    "page\t1 y\tfirst:1",
+]
+
+
+def value_key(word: str) -> Optional[tuple[int, object]]:
+    kind, _, text = word.partition(":")
+    return read_posting(KINDS[kind], text) if kind in KINDS else None  # type: ignore[return-value]
+
+
+def numbers_in(field: str) -> Optional[list[int]]:
+    words = field.split()
+    return [int(word) for word in words] if all(word.isdigit() for word in words) else None
+
+
+def column_of(field: str) -> Optional[tuple[bool, dict[int, object]]]:
+    word, _, said = field.partition(" ")
+    pairs = [one.partition("=") for one in said.split()]
+    values = {int(node): value_key(value) for node, _, value in pairs}
+    if word not in ("up", "down") or None in values.values() or list(values) != sorted(values):
+        return None
+    return word == "down", values  # type: ignore[return-value]
+
+
+def ordered(fields: list[str]) -> Optional[str]:
+    nodes = numbers_in(fields[0])
+    columns = [column_of(field) for field in fields[1:]]
+    if nodes is None or None in columns:
+        return None
+    made = sorted(set(nodes))
+    for down, values in reversed(columns):  # type: ignore[misc]
+        there = sorted((node for node in made if node in values), key=lambda node: values[node], reverse=down)  # type: ignore[arg-type, return-value]
+        made = there + [node for node in made if node not in values]
+    return " ".join(map(str, made))
+
+
+def paged(fields: list[str]) -> Optional[str]:
+    nodes = numbers_in(fields[0])
+    said: dict[str, int] = {}
+    for word in fields[1].split():
+        name, _, number = word.partition(":")
+        if name not in ("first", "offset", "after") or not number.lstrip("-").isdigit():
+            return None
+        said.setdefault(name, int(number))
+    if nodes is None:
+        return None
+    made = [node for node in nodes if "after" not in said or node > said["after"]]
+    made = made[max(said.get("offset", 0), 0) :]
+    first = said.get("first", len(made))
+    return " ".join(map(str, made[:first] if first >= 0 else made[first:]))
+
+
+def random_orders() -> Iterator[str]:
+    for _ in range(120):
+        nodes = random.sample(range(1, 15), random.randrange(10))
+        fields = [" ".join(map(str, nodes))]
+        for _ in range(random.randrange(4)):
+            kind = random.choice(["int", "int", "text", "mixed"])
+            values = {node: one_value(kind) for node in sorted(random.sample(range(1, 16), random.randrange(12)))}
+            fields.append(" ".join([random.choice(["up", "down"]), *(f"{node}={value}" for node, value in values.items())]))
+        yield "\t".join(["order", *fields])
+
+
+def one_value(kind: str) -> str:
+    kind = random.choice(["int", "text", "bool"]) if kind == "mixed" else kind
+    return {
+        "int": f"int:{random.randrange(-2, 3)}",
+        "text": f"text:{random.choice(['', 'a', 'b', 'ab', 'é'])}",
+        "bool": f"bool:{random.choice(['true', 'false'])}",
+    }[kind]
+
+
+# ---------------------------------------------------------------------------------------------------
+# Whole trees
+# ---------------------------------------------------------------------------------------------------
+
+
+def random_fields(depth: int) -> str:
+    """Fields of a query, no two under one key."""
+    choices = ["uid", "name", "age", "count(uid)", "count(friend)", "a: name", "b: name", "c: count(friend)", "d: uid", "n: count(uid)"]
+    if depth:
+        choices += [f"friend {random_fields(depth - 1)}", f"~friend {random_fields(depth - 1)}", f"a: boss {random_fields(depth - 1)}"]
+        choices += [f"boss {random_fields(depth - 1)}", "likes", "likes { }"]
+    random.shuffle(choices)
+    said: dict[str, str] = {}
+    for choice in choices[: random.randrange(6)]:
+        key = choice.partition(":")[0] if ":" in choice.partition("{")[0] else choice.partition(" ")[0]
+        said.setdefault(key.replace("count(uid)", "count"), choice)
+    return f"{{ {' '.join(said.values())} }}"
+
+
+def random_tree(fields: list[Field]) -> Tree:
+    """A whole tree of a node that might stand under these fields."""
+    under: dict[str, Union[str, Tree, list[Tree]]] = {}
+    for field in fields:
+        item = field.item
+        if isinstance(item, CountUid):
+            continue
+        if isinstance(item, Uid):
+            under[key_of(field)] = f'"0x{random.randrange(1, 9)}"'
+        elif isinstance(item, Count):
+            under[key_of(field)] = str(random.randrange(4))
+        elif item.edge.predicate in ("name", "age"):
+            if random.random() < 0.7:
+                under[key_of(field)] = str(random.randrange(10)) if item.edge.predicate == "age" else f'"{random.choice("xyz")}"'
+        else:
+            trees = [random_tree(item.fields or []) for _ in range(random.randrange(4))]
+            if item.edge.predicate == "boss" and not counts_in(item.fields):
+                if trees:
+                    under[key_of(field)] = trees[0]
+            else:
+                under[key_of(field)] = trees
+    return Tree(under)
+
+
+def steps_of(tree: Union[str, Tree, list[Tree]]) -> Iterator[str]:
+    """The steps that make a tree."""
+    if isinstance(tree, str):
+        yield f"text {tree[1:-1]}" if tree.startswith('"') else f"int {tree}"
+    elif isinstance(tree, Tree):
+        for key, below in tree.under.items():
+            yield from steps_of(below)
+            yield f"field {key}"
+        yield f"node {len(tree.under)}"
+    else:
+        for one in tree:
+            yield from steps_of(one)
+        yield f"array {len(tree)}"
+
+
+def whole_text(tree: Union[str, Tree, list[Tree]]) -> str:
+    """The text of a tree as it stands."""
+    if isinstance(tree, str):
+        return tree
+    if isinstance(tree, Tree):
+        return f"{{{','.join(f'{chr(34)}{key}{chr(34)}:{whole_text(below)}' for key, below in tree.under.items())}}}"
+    return f"[{','.join(map(whole_text, tree))}]"
+
+
+def answer_text(objects: list[str]) -> str:
+    return f'{{"data":{{"q":[{",".join(objects)}]}}}}'
+
+
+def pairs_text(pairs: dict[str, str]) -> str:
+    return f"{{{','.join(f'{chr(34)}{key}{chr(34)}:{text}' for key, text in pairs.items())}}}"
+
+
+def shape_of(table: str, fields: list[Field], trees: list[Tree]) -> str:
+    if table == "cascade":
+        return answer_text([whole_text(tree) for tree in remaining(fields, trees)])
+    if table == "strip":
+        return answer_text([f"{{{','.join(shown(fields, tree))}}}" for tree in trees])
+    return answer_text([pairs_text(pairs) for tree in trees for pairs in flat(fields, tree)])
+
+
+def random_shapes() -> Iterator[tuple[str, str]]:
+    for _ in range(300):
+        text = f"{{ q(func: uid(0x1)) {random_fields(2)} }}"
+        fields = read_query(text)[0].fields
+        trees = [random_tree(fields) for _ in range(random.randrange(4))]
+        steps = [step for tree in trees for step in steps_of(tree)] or ["nothing"]
+        for table in ("cascade", "strip", "normalize"):
+            yield "\t".join([table, text, *steps]), shape_of(table, fields, trees)
+
+
+def product(count: int) -> str:
+    """How many bytes the flat objects of a node with so many nodes under each of three edges have, as an answer."""
+    one = len('{"a":1,"b":1,"c":1}')
+    size = len(answer_text([])) + count**3 * (one + 1) - (count > 0)
+    return "the answer is too large" if size - len('{"data":{"q":}}') > LONGEST else f"{size} bytes"
+
+
+def rows() -> Iterator[tuple[str, Optional[str]]]:
+    """Each row with its answer; none where it can't be read. A comment has no answer."""
+    yield "# Lists of nodes in order. Wanted: the rules of the language, by hand.", ""
+    yield from ((row, ordered(row.split("\t")[1:])) for row in HAND_ORDERS)
+    yield "# The same at random. Wanted: sorted by tools/rows_shapes.py, a key at a time.", ""
+    yield from ((row, ordered(row.split("\t")[1:])) for row in random_orders())
+    yield "# Very many nodes, of which seven values are told apart.", ""
+    yield from [("many\t10", "6 7"), ("many\t1000000", "6 999999"), ("many\tx", None)]
+    yield "# Pages.", ""
+    yield from ((row, paged(row.split("\t")[1:])) for row in HAND_PAGES)
+    yield "# Whole trees at random: what a cascade leaves, what is shown, flat objects. Wanted: tools/plain_levels.py.", ""
+    yield from random_shapes()
+    yield "# Products of three lists, of which the larger ones pass the limit of an answer.", ""
+    yield from ((f"product\t{count}", product(count)) for count in (0, 1, 2, 50, 93, 94, 95, 400, 1000))
+    yield "# Rows that can't be read.", ""
+    yield from ((row, None) for row in ("cascade\t{ q(", "strip\t{ q(func: uid(0x1)) { uid } }\tnode 1", "normalize\t{ }\tfield a", "else\t1"))
+
+
+def main() -> int:
+    random.seed(SEED)
+    answers = sys.argv[1:] == ["stdout"]
+    for row, answer in rows():
+        if not answers:
+            print(row)
+        elif not row.startswith("#"):
+            print(f"{row} => {answer}" if answer is not None else f"? {row}")
+    return 0
+
+
+if __name__ == "__main__":
+    sys.exit(main())
