@@ -11,6 +11,9 @@ use std::marker::Model;
 // The bytes that an answer may have.
 const MOST: usize = 16_777_216;
 
+// The bytes for which there is room at first, so that a short answer doesn't grow in steps.
+const FIRST: usize = 256;
+
 /// The text of an answer while it is written, which contracts see as its bytes. It has at most 16,777,216 of them.
 ///
 /// What is added stands at the end. `TooLarge` comes exactly where the text would have more bytes than that, and else
@@ -36,7 +39,7 @@ impl AnswerText {
     pub fn new(alloc: Global) -> Mem<AnswerText>
         ensures { IfOk result (λ answer. answer ≡ []) }
     {
-        let text = Str::from_str(alloc, "")?;
+        let text = Str::from_string(String::with_capacity(alloc, FIRST)?);
         Ok(AnswerText { alloc, text })
     }
 
