@@ -1,7 +1,7 @@
 -- Tests of values are tests of objects.
-use Rattle.std.proofs.Common.{◌≡◌, ℕ, ◌+◌, ◌<◌, length, take, get_or, Bool, true, false, List, [], ◌∷◌, ◌++◌, map, not, append-nil, append_assoc, refl, ap, sym, ◌∙◌}
-use Rattle.std.specs.Prelude.{◌&&◌, ◌||◌, filter_map, option_to_list, Option, Some, None}
-use Rattle.std.specs.List.{list_any, list_all, cons_option}
+use Rattle.std.proofs.Common.{◌≡◌, ℕ, ◌+◌, ◌<◌, length, take, get_or, Bool, true, false, List, [], ◌∷◌, map, not, refl, ap, sym, ◌∙◌}
+use Rattle.std.specs.Prelude.{◌&&◌, ◌||◌, filter_map}
+use Rattle.std.specs.List.{list_any, list_all}
 use Rattle.std.proofs.lemmas.List.{take_more}
 use Rattle.std.specs.Ordering.{nat_cmp}
 use Rattle.dg_values.specs.Order.{text_cmp, value_cmp, posting_cmp}
@@ -83,11 +83,6 @@ term_texts (Text t) = token_texts (terms_of t)
 term_texts (Int n) = refl
 term_texts (Truth b) = refl
 term_texts (Time m) = refl
-
--- one more in front of what is left
-pub one_more_text : (xs ys : List (List ℕ)) (o : Option (List ℕ)) → (xs ++ option_to_list o) ++ ys ≡ xs ++ cons_option o ys
-one_more_text xs ys None = ap (λ zs. zs ++ ys) (append-nil xs)
-one_more_text xs ys (Some x) = append_assoc xs (x ∷ []) ys
 
 pub all_by_none : {X : Type 0} (f : X → Bool) (xs : List X) → list_all f xs ≡ not (list_any (λ x. not (f x)) xs)
 all_by_none f [] = refl

@@ -129,11 +129,11 @@ fn root_below<S: Snapshot, L: Ledger>(
     func: &Func,
     op: CmpOp,
     p: &str,
-    given: &Value,
+    high: &Value,
     vars: &Vars,
     reads: &mut Steps<L>,
 ) -> Mem<Uids>
-    requires given { (kind : Option Kind) × (func.now ≡ funcs.Cmp op (part.Pred p.now) kind (given.now ∷ [])) }
+    requires given { (kind : Option Kind) × (func.now ≡ funcs.Cmp op (part.Pred p.now) kind (high.now ∷ [])) }
     requires below { (o : Ordering) → stands op o ≡ true → is_le o ≡ true }
     ensures { IsLawful (S.declared snap.now) (S.graph snap.now) → IfOk result (λ uids. uids ≡ root_nodes (S.graph snap.now) vars.now.variables func.now) }
 {
@@ -145,7 +145,7 @@ fn root_below<S: Snapshot, L: Ledger>(
             p,
             tokenizer,
             None,
-            Some(given),
+            Some(high),
             vars,
             reads,
         ),
@@ -224,11 +224,11 @@ fn root_above<S: Snapshot, L: Ledger>(
     func: &Func,
     op: CmpOp,
     p: &str,
-    given: &Value,
+    low: &Value,
     vars: &Vars,
     reads: &mut Steps<L>,
 ) -> Mem<Uids>
-    requires given { (kind : Option Kind) × (func.now ≡ funcs.Cmp op (part.Pred p.now) kind (given.now ∷ [])) }
+    requires given { (kind : Option Kind) × (func.now ≡ funcs.Cmp op (part.Pred p.now) kind (low.now ∷ [])) }
     requires above { (o : Ordering) → stands op o ≡ true → is_ge o ≡ true }
     ensures { IsLawful (S.declared snap.now) (S.graph snap.now) → IfOk result (λ uids. uids ≡ root_nodes (S.graph snap.now) vars.now.variables func.now) }
 {
@@ -239,12 +239,12 @@ fn root_above<S: Snapshot, L: Ledger>(
             func,
             p,
             tokenizer,
-            Some(given),
+            Some(low),
             None,
             vars,
             reads,
         ),
-        None => root_from_moment(alloc, snap, func, op, p, given, vars, reads),
+        None => root_from_moment(alloc, snap, func, op, p, low, vars, reads),
     }
 }
 
