@@ -1,0 +1,5 @@
+pub mod KeyOrders
+pub mod StableSorts
+pub mod OrderLaws
+mod KeyTurns
+mod Beside

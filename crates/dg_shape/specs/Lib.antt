@@ -1,0 +1,2 @@
+-- What lists of nodes and their trees become.
+pub mod Orders
