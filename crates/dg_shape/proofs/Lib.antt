@@ -3,3 +3,5 @@ pub mod StableSorts
 pub mod OrderLaws
 mod KeyTurns
 mod Beside
+mod Behind
+mod CascadeLaws
