@@ -4,4 +4,6 @@ pub mod OrderLaws
 mod KeyTurns
 mod Beside
 mod Behind
-mod CascadeLaws
+mod AskedLaws
+mod Turns
+mod ShownTurns

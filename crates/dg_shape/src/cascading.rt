@@ -1,9 +1,11 @@
 // Cascade: nodes are dropped where one of their fields is left out.
-ghost use Rattle.std.specs.Prelude.{◌≡◌, ◌≤◌, ◌<◌, ◌+◌, ◌∷◌, List, if◌then◌else◌, option_to_list, true, false, None, Some, IsTrue, IfSome, IfNone, length, take, drop, map, filter_map, option_map};
+ghost use Rattle.std.specs.Prelude.{◌≡◌, ◌≤◌, ◌∷◌, List, if◌then◌else◌, true, false, None, Some, IsTrue, IfSome, IfNone, length, take, filter_map, option_map};
 ghost use Rattle.dg_tree.specs.declared.tree.Tree.TheVariants as trees;
-ghost use Rattle.dg_shape.specs.Cascade.{Asked, asked_by, asked_by_item, remaining, remaining_from, node_cut, some_array, kept_at, cut, cascaded};
+ghost use Rattle.dg_shape.specs.Asked.{Asked, asked_by, asked_by_item};
+ghost use Rattle.dg_shape.specs.Cascade.{remaining, remaining_from, node_cut, some_array, cut, cut_below, to_remain, cascaded};
 
 use crate::keys::{is_key_of, is_number};
+use crate::moves::{keep, put_back};
 use dg_parse::{QField, QItem};
 use dg_tree::{Field, Tree};
 use dg_values::List;
@@ -20,7 +22,7 @@ pub fn cascade(tree: Tree, fields: &[QField]) -> Option<Tree>
 // What remains of a node or of an array of nodes; a value stays.
 #[cycle(cascade)]
 fn cut(fields: &[QField], tree: Tree) -> Option<Tree>
-    ensures { result ≡ cut (remaining (map asked_by fields.now)) tree }
+    ensures { result ≡ cut (remaining (to_remain fields.now)) tree }
 {
     match tree {
         Tree::Array(items) => cut_array(fields, items),
@@ -32,7 +34,7 @@ fn cut(fields: &[QField], tree: Tree) -> Option<Tree>
 // The nodes of an array that stay, if there are any.
 #[cycle(cascade)]
 fn cut_array(fields: &[QField], items: List<Tree>) -> Option<Tree>
-    ensures { result ≡ some_array (filter_map (node_cut (remaining (map asked_by fields.now))) items) }
+    ensures { result ≡ some_array (filter_map (node_cut (remaining (to_remain fields.now))) items) }
 {
     let mut items = items.into_vec();
     let kept = cut_all(fields, items.as_mut_slice());
@@ -54,7 +56,7 @@ fn array_of(items: Vec<Tree>) -> Option<Tree>
 #[cycle(cascade)]
 fn cut_all(fields: &[QField], items: &mut [Tree]) -> usize
     ensures few { result ≤ length items.new }
-    ensures kept { take result items.new ≡ filter_map (node_cut (remaining (map asked_by fields.now))) items.old }
+    ensures kept { take result items.new ≡ filter_map (node_cut (remaining (to_remain fields.now))) items.old }
 {
     let mut kept = 0;
     for i in 0..items.len() {
@@ -64,25 +66,10 @@ fn cut_all(fields: &[QField], items: &mut [Tree]) -> usize
     kept
 }
 
-// Puts a tree that stays behind those that do, and says how many stay then.
-fn keep(items: &mut [Tree], kept: usize, tree: Option<Tree>) -> usize
-    requires { kept < length items.old }
-    ensures count { result ≡ kept + length (option_to_list tree) }
-    ensures items { items.new ≡ kept_at items.old kept tree }
-{
-    match tree {
-        Some(tree) => {
-            items[kept] = tree;
-            kept + 1
-        }
-        None => kept,
-    }
-}
-
 // A node, if it stays; a value stays.
 #[cycle(cascade)]
 fn cut_one(fields: &[QField], tree: Tree) -> Option<Tree>
-    ensures { result ≡ node_cut (remaining (map asked_by fields.now)) tree }
+    ensures { result ≡ node_cut (remaining (to_remain fields.now)) tree }
 {
     match tree {
         Tree::Node(parts) => cut_node(fields, parts),
@@ -93,7 +80,7 @@ fn cut_one(fields: &[QField], tree: Tree) -> Option<Tree>
 // A node, if none of its fields is left out.
 #[cycle(cascade)]
 fn cut_node(fields: &[QField], parts: List<Field>) -> Option<Tree>
-    ensures { result ≡ option_map trees.Node (remaining (map asked_by fields.now) parts) }
+    ensures { result ≡ option_map trees.Node (remaining (to_remain fields.now) parts) }
 {
     let mut parts = parts.into_vec();
     if cut_fields(fields, parts.as_mut_slice()) {
@@ -105,8 +92,8 @@ fn cut_node(fields: &[QField], parts: List<Field>) -> Option<Tree>
 // Cuts the fields of a node, and says whether none is left out.
 #[cycle(cascade)]
 fn cut_fields(fields: &[QField], parts: &mut [Field]) -> bool
-    ensures stays { IsTrue result → remaining (map asked_by fields.now) parts.old ≡ Some parts.new }
-    ensures goes { result ≡ false → remaining (map asked_by fields.now) parts.old ≡ None }
+    ensures stays { IsTrue result → remaining (to_remain fields.now) parts.old ≡ Some parts.new }
+    ensures goes { result ≡ false → remaining (to_remain fields.now) parts.old ≡ None }
 {
     let mut at = 0;
     for field in fields {
@@ -122,8 +109,8 @@ fn cut_fields(fields: &[QField], parts: &mut [Field]) -> bool
 // field is left out.
 #[cycle(cascade)]
 fn cut_field(field: &QField, parts: &mut [Field], at: usize) -> Option<usize>
-    ensures stays { (more : List Asked) → IfSome result (λ next. remaining_from parts.old at (asked_by field.now ∷ more) ≡ remaining_from parts.new next more) }
-    ensures goes { (more : List Asked) → IfNone result (remaining_from parts.old at (asked_by field.now ∷ more) ≡ None) }
+    ensures stays { (more : List Asked) → IfSome result (λ next. remaining_from parts.old at (asked_by cut_below field.now ∷ more) ≡ remaining_from parts.new next more) }
+    ensures goes { (more : List Asked) → IfNone result (remaining_from parts.old at (asked_by cut_below field.now ∷ more) ≡ None) }
 {
     if is_number(field) {
         return Some(at);
@@ -140,7 +127,7 @@ fn cut_field(field: &QField, parts: &mut [Field], at: usize) -> Option<usize>
 // Cuts what stands under a field, and says whether something remains.
 #[cycle(cascade)]
 fn cut_under(item: &QItem, tree: &mut Tree) -> bool
-    ensures { (asked_by_item item.now).remains tree.old ≡ (if result then Some tree.new else None) }
+    ensures { (asked_by_item cut_below item.now).left tree.old ≡ (if result then Some tree.new else None) }
 {
     let whole = mem::replace(tree, Tree::Bool(false));
     put_back(tree, cut_item(item, whole))
@@ -149,7 +136,7 @@ fn cut_under(item: &QItem, tree: &mut Tree) -> bool
 // What remains of what stands under a field.
 #[cycle(cascade)]
 fn cut_item(item: &QItem, tree: Tree) -> Option<Tree>
-    ensures { result ≡ (asked_by_item item.now).remains tree }
+    ensures { result ≡ (asked_by_item cut_below item.now).left tree }
 {
     match item {
         QItem::Edge { fields, .. } => match fields {
@@ -159,18 +146,5 @@ fn cut_item(item: &QItem, tree: Tree) -> Option<Tree>
         QItem::Uid | QItem::CountUid | QItem::Count(_) | QItem::Val(_) | QItem::Agg { .. } => Some(
             tree,
         ),
-    }
-}
-
-// Puts a tree in its place, if there is one, and says whether there is.
-fn put_back(place: &mut Tree, tree: Option<Tree>) -> bool
-    ensures { tree ≡ (if result then Some place.new else None) }
-{
-    match tree {
-        Some(tree) => {
-            *place = tree;
-            true
-        }
-        None => false,
     }
 }

@@ -1,11 +1,15 @@
-//! What lists of nodes and their trees become: put in order, cut to a page, cut by a cascade.
+//! What lists of nodes and their trees become: put in order, cut to a page, cut by a cascade, and as they are shown.
 #![tactic(auto)]
 
 mod cascading;
+mod counting;
 mod keys;
+mod moves;
 mod ordering;
 mod paging;
+mod stripping;
 
 pub use cascading::cascade;
 pub use ordering::{Key, order};
 pub use paging::page;
+pub use stripping::strip;

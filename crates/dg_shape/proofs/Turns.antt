@@ -1,29 +1,11 @@
--- What an edge asks in a cascade, and one turn of its loop over trees.
-use Rattle.std.proofs.Common.{◌≡◌, ◌≢◌, ℕ, ◌+◌, ◌<◌, ◌≤◌, List, [], ◌∷◌, ◌++◌, length, get_or, set, take, refl, ap, sym, ◌∙◌, append-nil, length-set, get_or-set_other, arith}
-use Rattle.std.specs.Prelude.{Option, Some, None, map, filter_map, option_to_list}
+-- One turn of a loop that moves the trees that stay to the front.
+use Rattle.std.proofs.Common.{◌≡◌, ◌≢◌, ℕ, ◌+◌, ◌<◌, ◌≤◌, List, [], ◌∷◌, ◌++◌, length, get_or, set, take, ap, sym, ◌∙◌, append-nil, length-set, get_or-set_other, arith}
+use Rattle.std.specs.Prelude.{Option, Some, None, filter_map, option_to_list}
 use Rattle.std.specs.List.{cons_option}
 use Rattle.std.proofs.lemmas.List.{take_more_set, take-set-le, take_more}
 use Rattle.std.proofs.lemmas.List.Elements.{filter_map-append}
 use Rattle.dg_tree.specs.declared.tree.Tree.{Tree}
-use Rattle.dg_parse.specs.declared.query.QArg.{QArg}
-use Rattle.dg_parse.specs.declared.query.QDir.{QDir}
-use Rattle.dg_parse.specs.declared.query.QEdge.{QEdge}
-use Rattle.dg_parse.specs.declared.query.QField.{QField}
-use Rattle.dg_parse.specs.declared.query.QItem.{QItem}
-use Rattle.dg_parse.specs.declared.query.QItem.TheVariants as items
-use Rattle.dg_parse.specs.declared.query.QItem.TheFolds.{fold_out-QItem}
-use Rattle.dg_shape.specs.Cascade.{Asked, step_of_item, step_of_field, asked_by, asked_by_item, remaining, cut, kept_at}
-
--- ---- what an edge asks
-
--- an edge is cut by the fields in its braces
-pub edge_remains : (item : QItem) (edge : QEdge) (args : List QArg) (dirs : List QDir) (fields : List QField) (t : Tree)
-    → item ≡ items.Edge edge args dirs (Some fields) → (asked_by_item item).remains t ≡ cut (remaining (map asked_by fields)) t
-edge_remains item edge args dirs fields t e =
-    ap (λ a. (asked_by_item a).remains t) e
-    ∙ (ap (λ a. a.remains t) (fold_out-QItem Asked Asked step_of_item step_of_field (items.Edge edge args dirs (Some fields))) ∙ rw (items.outs-Edge edge args dirs (Some fields)) refl)
-
--- ---- a turn of the loop over trees
+use Rattle.dg_shape.specs.Moves.{kept_at}
 
 module _ {X Y : Type 0} where
   filter_map-take_more : (f : X → Option Y) (xs : List X) (i : ℕ) (d : X) → i < length xs → filter_map f (take (i + 1) xs) ≡ filter_map f (take i xs) ++ cons_option (f (get_or xs i d)) []
