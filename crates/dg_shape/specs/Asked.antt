@@ -8,8 +8,7 @@ use Rattle.dg_parse.specs.declared.query.QItem.TheFolds.{fold-QField, fold-QItem
 use Rattle.dg_parse.specs.Keys.{shown_key}
 use Rattle.dg_shape.specs.Keyed.{is_number, in_braces}
 
--- what a field asks of a node: its key, whether it is the number of nodes, which asks nothing, and what is left of what
--- stands under the key
+-- what a field asks of a node: its key, whether it is the number of nodes, and what is left of what stands under the key
 pub record Asked : Type 0 where
   pub key : List ℕ
   pub numbers : Bool

@@ -61,8 +61,7 @@ cut_below asked t = cut (remaining asked) t
 abbrev pub to_remain : List QField → List Asked
 to_remain fields = map (asked_by cut_below) fields
 
--- what remains of a node, or of an array of nodes, of which these fields are asked: from the leaves up, a node is dropped
--- where one of its fields is left out, and an edge is left out where no child remains
+-- what remains of a node, or of an array of nodes, of which these fields are asked, from the leaves up
 abbrev pub cascaded : List QField → Tree → Option Tree
 cascaded fields t = cut (remaining (to_remain fields)) t
 

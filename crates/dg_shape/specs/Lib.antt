@@ -5,3 +5,4 @@ pub mod Asked
 pub mod Moves
 pub mod Cascade
 pub mod Strip
+pub mod Whole

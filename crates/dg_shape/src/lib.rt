@@ -4,12 +4,14 @@
 mod cascading;
 mod counting;
 mod keys;
+mod laws;
 mod moves;
 mod ordering;
 mod paging;
 mod stripping;
 
 pub use cascading::cascade;
+pub use laws::{nodes_are_cut_by_field, nodes_are_shown_by_field};
 pub use ordering::{Key, order};
 pub use paging::page;
 pub use stripping::strip;

@@ -15,6 +15,7 @@ use std::cmp::Ordering;
 use std::marker::Model;
 
 /// What a list is ordered by: the values that nodes have, and which comes first.
+#[derive(Drop)]
 pub struct Key<'a> {
     /// Whether the node of the greatest value comes first.
     pub down: bool,
