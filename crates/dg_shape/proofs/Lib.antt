@@ -1,0 +1,10 @@
+pub mod KeyOrders
+pub mod StableSorts
+pub mod OrderLaws
+pub mod AskedLaws
+pub mod WholeLaws
+mod KeyTurns
+mod Beside
+mod Behind
+mod Turns
+mod ShownTurns
