@@ -87,7 +87,12 @@ fn block_rows<L: Ledger>(
 }
 
 // The rows of the first block of a query.
-fn first_rows(alloc: Global, ground: &Ground, limit: usize, plan: &Plan) -> Mem<Option<Result<Rows, TreeFault>>> {
+fn first_rows(
+    alloc: Global,
+    ground: &Ground,
+    limit: usize,
+    plan: &Plan,
+) -> Mem<Option<Result<Rows, TreeFault>>> {
     let Some(block) = plan.query.blocks.as_slice().first() else {
         return Ok(None);
     };
@@ -126,7 +131,12 @@ fn size_text(alloc: Global, made: &Result<Rows, TreeFault>) -> Mem<String> {
 }
 
 // The rows of a query within a limit.
-fn made(alloc: Global, ground: &Ground, limit: usize, text: &str) -> Mem<Option<Result<Rows, TreeFault>>> {
+fn made(
+    alloc: Global,
+    ground: &Ground,
+    limit: usize,
+    text: &str,
+) -> Mem<Option<Result<Rows, TreeFault>>> {
     match plan_of(alloc, ground, text)? {
         Some(plan) => first_rows(alloc, ground, limit, &plan),
         None => Ok(None),
