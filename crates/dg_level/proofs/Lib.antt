@@ -1,4 +1,19 @@
--- Lemmas on rows.
+-- Lemmas on levels, and on the texts of their rows.
 pub mod KeepLemmas
-pub mod PartLaws
 pub mod RowLaws
+pub mod PartLaws
+pub mod ListLaws
+pub mod OrderLaws
+pub mod ValueLaws
+pub mod ShownLaws
+pub mod PlannedLaws
+pub mod WritingLaws
+pub mod ColumnLaws
+pub mod EdgeLaws
+pub mod ShortLaws
+pub mod TextLaws
+pub mod MeaningLaws
+pub mod FormLaws
+pub mod BlockLaws
+pub mod BlockMeanings
+pub mod RunLaws

@@ -123,6 +123,20 @@ length_flat : (texts : List (List ℕ)) → length (flat_map (λ text. text) tex
 length_flat [] = refl
 length_flat (text ∷ texts) = omega (arith, length-append text (flat_map (λ text. text) texts), length_flat texts, total_first text texts)
 
+-- ---- a row written field by field
+
+-- a tree behind its key is a field more
+pub field_more : (fields : List Field) (key : List ℕ) (tree : Tree) → with_fields (row_text fields) ((key_text key ++ tree_text tree) ∷ []) ≡ row_text (fields ++ record { key = key; tree = tree } ∷ [])
+field_more fields key tree =
+    let field : Field = record { key = key; tree = tree } in
+    ap (λ text. with_fields (row_text fields) (text ∷ [])) (sym (text_of field)) ∙ fields_more fields (field ∷ [])
+
+-- an array in which something stands is the tree of its field
+pub array_in_field : (key : List ℕ) (item : Tree) (items : List Tree) → map (λ array. key_text key ++ array) (shown_array (map tree_text (item ∷ items))) ≡ field_text (record { key = key; tree = trees.Array (item ∷ items) }) ∷ []
+array_in_field key item items =
+    let field : Field = record { key = key; tree = trees.Array (item ∷ items) } in
+    ap (λ text. text ∷ []) (ap (λ array. key_text key ++ array) (sym (array_of_trees (item ∷ items))) ∙ sym (text_of field))
+
 -- ---- a level, each node once
 
 module _ (f : ℕ → List ℕ) where

@@ -1,4 +1,15 @@
--- The rows of a level as texts.
+-- What the fields of a query show at nodes, and the texts of the rows of a level.
+pub mod Answers
+pub mod Lists
+pub mod Shown
+pub mod Planned
+pub mod OrderKeys
 pub mod Keeping
 pub mod Parts
 pub mod Rows
+pub mod Columns
+pub mod Keys
+pub mod Levels
+pub mod Forms
+pub mod Blocks
+pub mod PlannedBlocks

@@ -65,7 +65,7 @@ fn has_items(front: &[Str], list: &[u64], level: &Uids, below: &Rows) -> bool
 }
 
 // The comma before a part, where another part stands before it.
-fn comma_behind(wrote: bool) -> &'static str
+pub fn comma_behind(wrote: bool) -> &'static str
     ensures { result.now ≡ comma_behind wrote }
 {
     if wrote { "," } else { "" }

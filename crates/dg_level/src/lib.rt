@@ -1,7 +1,25 @@
-//! What the fields of a query show of nodes, level by level.
+//! What the fields of a query show at nodes, level by level, and what a query answers.
 #![tactic(auto)]
 
+mod answers;
 mod arrays;
+mod blocks;
+mod column;
+mod columns;
+mod form;
+mod keys;
+mod levels;
+mod lists;
+mod order_keys;
 mod rows;
+mod running;
+mod sorts;
+mod writing;
 
+pub use answers::shown;
+pub use form::is_built;
+pub use levels::rows_of;
+pub use lists::{lists_of, nodes_below};
 pub use rows::Rows;
+pub use running::run_plan;
+pub use sorts::{Sort, sort_of};

@@ -1,5 +1,5 @@
 // The texts of the nodes of a level.
-ghost use Rattle.std.specs.Prelude.{◌≡◌, ◌↔◌, ◌+◌, ◌<◌, ◌≤◌, ◌++◌, ◌∷◌, [], length, take, slice_index_or, IfOk, OnOk, OnErr, IsErrOf, IsTrue};
+ghost use Rattle.std.specs.Prelude.{◌≡◌, ◌↔◌, ◌+◌, ◌<◌, ◌≤◌, ◌++◌, ◌∷◌, [], length, take, slice_index_or, OnOk, OnErr, IsErrOf, IsTrue};
 ghost use Rattle.dg_tree.specs.Texts.{key_text, tree_text};
 ghost use Rattle.dg_level.specs.Keeping.{last_end};
 ghost use Rattle.dg_level.specs.Rows.{total};

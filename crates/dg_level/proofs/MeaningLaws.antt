@@ -1,0 +1,176 @@
+-- What fields show by the plan is what they show by their text.
+use Rattle.std.proofs.Common.{◌≡◌, ℕ, ◌≤◌, Bool, true, false, List, [], ◌∷◌, ◌++◌, map, take, length, refl, sym, ap, ◌∙◌, subst, arith, true≢false}
+use Rattle.std.specs.Prelude.{◌&&◌, if◌then◌else◌, Option, Some, None, option_to_list, filter, filter_map}
+use Rattle.std.specs.List.{AllByRecursion, list_all}
+use Rattle.std.specs.declared.cmp.Ordering.TheVariants.{Less}
+use Rattle.std.specs.Ordering.{nat_cmp}
+use Rattle.dg_values.specs.Ascending.{Ascends, ascending}
+use Rattle.dg_values.specs.Order.{posting_cmp}
+use Rattle.dg_values.specs.declared.value.Value.{Value}
+use Rattle.dg_values.specs.declared.value.Posting.{Posting}
+use Rattle.dg_values.specs.declared.value.Posting.TheVariants.{Uid, Val}
+use Rattle.dg_schema.specs.declared.definition.PredDef.{PredDef}
+use Rattle.dg_schema.specs.Definitions.{definition_of}
+use Rattle.dg_graph.specs.declared.change.Triple.{Triple}
+use Rattle.dg_graph.specs.Graphs.{objects, IsLawful}
+use Rattle.dg_graph.specs.Lookups.{node_in, subjects_of}
+use Rattle.dg_graph.proofs.ObjectLaws.{objects_ascend, subjects_ascend}
+use Rattle.dg_parse.specs.declared.query.QArg.{QArg}
+use Rattle.dg_parse.specs.declared.query.QArg.TheVariants as arguments
+use Rattle.dg_parse.specs.declared.query.QDir.{QDir}
+use Rattle.dg_parse.specs.declared.query.QEdge.{QEdge}
+use Rattle.dg_parse.specs.declared.query.QField.{QField}
+use Rattle.dg_parse.specs.declared.query.QFilter.{QFilter}
+use Rattle.dg_parse.specs.declared.query.QItem.{QItem}
+use Rattle.dg_parse.specs.declared.query.QItem.TheVariants as items
+use Rattle.dg_parse.specs.declared.query.QOrder.{QOrder}
+use Rattle.dg_parse.specs.declared.query.QOrder.TheVariants as orders
+use Rattle.dg_parse.specs.Keys.{key_of}
+use Rattle.dg_check.specs.declared.parts.Field.{Field as Kept}
+use Rattle.dg_check.specs.declared.parts.Filter.{Filter}
+use Rattle.dg_check.specs.declared.parts.Item.{Item, Item-F}
+use Rattle.dg_check.specs.declared.parts.Item.TheVariants as kept
+use Rattle.dg_check.specs.declared.parts.OrderKey.{OrderKey}
+use Rattle.dg_check.specs.declared.vars.Variable.{Variable}
+use Rattle.dg_check.specs.Parts.{AreFiltersOf, no_filter, more_filters, filters_in, in_braces, IsItemOf, uid, count_uid, count, val, agg, edge, AreFieldsOf, no_field, more_fields}
+use Rattle.dg_check.specs.Plans.{place_of, by_of, keys_of}
+use Rattle.dg_check.specs.Variables.{Definition, names_for}
+use Rattle.dg_check.specs.Vars.{value_at}
+use Rattle.dg_funcs.specs.Truth.{passes, nodes_along}
+use Rattle.dg_funcs.specs.Meaning.{text_passes}
+use Rattle.dg_funcs.specs.Laws.{AreOfKind, FiltersMeanTheirTexts}
+use Rattle.dg_shape.specs.Orders.{ordered, page}
+use Rattle.dg_tree.specs.declared.tree.Field.{Field}
+use Rattle.dg_tree.specs.declared.tree.Tree.{Tree}
+use Rattle.dg_level.specs.declared.sorts.Sort.{Sort}
+use Rattle.dg_level.specs.Answers.{value_tree, shown}
+use Rattle.dg_level.specs.Lists.{value_for, keys_for, children}
+use Rattle.dg_level.specs.Shown.{sort_of, under, edge_shown, shown_field, fields_at}
+use Rattle.dg_level.specs.Planned.{value_by, planned_keys, planned_list, value_kept, is_single, cut_to, planned_field, planned_at}
+use Rattle.dg_level.specs.Keys.{all_count_keys}
+use Rattle.dg_level.specs.Levels.{trees_of, kept_trees}
+use Rattle.dg_level.proofs.ListLaws.{ascending_same}
+use Rattle.dg_level.proofs.PlannedLaws.{trees_uid, trees_count_uid, trees_count, trees_val, trees_agg, trees_edge, trees_bare, field_is, all_counts}
+use Rattle.dg_level.proofs.ShortLaws.{list_short, one_node, sort_single}
+use Rattle.dg_level.proofs.TextLaws.{shown_item, text_uid, text_count_uid, text_count, text_val, text_agg, text_field, text_edge}
+
+-- ---- the nodes along an edge ascend
+
+above_all : (n : ℕ) (os : List Posting) → AllByRecursion (λ o. posting_cmp (Uid n) o ≡ Less) os → AllByRecursion (λ m. nat_cmp n m ≡ Less) (filter_map node_in os)
+above_all n [] a = tt
+above_all n (Uid m ∷ os) a = (a.0, above_all n os a.1)
+above_all n (Val v ∷ os) a = above_all n os a.1
+
+nodes_ascend : (os : List Posting) → Ascends posting_cmp os → Ascends nat_cmp (filter_map node_in os)
+nodes_ascend [] a = tt
+nodes_ascend (Uid n ∷ os) a = (above_all n os a.0, nodes_ascend os a.1)
+nodes_ascend (Val v ∷ os) a = nodes_ascend os a.1
+
+-- a list that is no longer than one is cut to itself
+cut_same : (single : Bool) (nodes : List ℕ) → (single ≡ true → length nodes ≤ 1) → cut_to single nodes ≡ nodes
+cut_same false nodes short = refl
+cut_same true nodes short = one nodes (short refl)
+  where
+    one : (ns : List ℕ) → length ns ≤ 1 → take 1 ns ≡ ns
+    one [] le = refl
+    one (n ∷ []) le = refl
+    one (n ∷ m ∷ ns) le = absurd (omega (arith, le))
+
+-- ---- order keys
+
+module _ (graph : List Triple) (ds : List Definition) (vars : List Variable) where
+  value_alike : (order : QOrder) → value_by graph vars (by_of ds order) ≡ value_for graph ds vars order
+  value_alike (orders.Pred p) = refl
+  value_alike (orders.Val x) = refl
+
+  keys_alike : (args : List QArg) → planned_keys graph vars (keys_of ds args) ≡ keys_for graph ds vars args
+  keys_alike [] = refl
+  keys_alike (arguments.First n ∷ args) = keys_alike args
+  keys_alike (arguments.Offset n ∷ args) = keys_alike args
+  keys_alike (arguments.After n ∷ args) = keys_alike args
+  keys_alike (arguments.Asc order ∷ args) = λ i. (false, value_alike order i) ∷ keys_alike args i
+  keys_alike (arguments.Desc order ∷ args) = λ i. (true, value_alike order i) ∷ keys_alike args i
+
+module _ (schema : List PredDef) (ds : List Definition) (graph : List Triple) (vars : List Variable) (lawful : IsLawful schema graph) (of_kind : AreOfKind ds vars) (filters_mean : FiltersMeanTheirTexts) where
+  along_ascends : (e : QEdge) (n : ℕ) → Ascends nat_cmp (nodes_along graph e n)
+  along_ascends e n = by e.back
+    where
+      by : (b : Bool) → Ascends nat_cmp (if b then subjects_of graph e.pred (Uid n) else filter_map node_in (objects graph e.pred n))
+      by true = subjects_ascend graph e.pred (Uid n)
+      by false = nodes_ascend (objects graph e.pred n) (objects_ascend graph e.pred n lawful.ascend)
+
+  filters_alike : (n : ℕ) (qs : List QFilter) (fs : List Filter) → AreFiltersOf schema ds qs fs → list_all (passes graph vars n) fs ≡ list_all (text_passes graph (names_for false ds) vars n) qs
+  filters_alike n qs fs no_filter = refl
+  filters_alike n qs fs (more_filters q f qs' fs' is are) =
+      let one = sym (filters_mean schema ds graph vars n q f lawful of_kind is) in
+      let rest = filters_alike n qs' fs' are in
+      λ i. one i && rest i
+
+  module _ (e : QEdge) (args : List QArg) (dirs : List QDir) (by_keys : List OrderKey) (filters : List Filter) (keys_are : by_keys ≡ keys_of ds args) (filters_are : AreFiltersOf schema ds (filters_in dirs) filters) where
+    -- a list by the plan is that by the text
+    list_alike : (n : ℕ) → planned_list graph vars e args by_keys filters n ≡ children graph ds vars e args dirs n
+    list_alike n =
+        let along = ascending_same (nodes_along graph e n) (along_ascends e n) in
+        let keys = ap (planned_keys graph vars) keys_are ∙ keys_alike graph ds vars args in
+        λ i. page args (ordered (keys i) (filter (λ m. filters_alike m (filters_in dirs) filters filters_are i) (along i)))
+
+    short_list : is_single (sort_of (definition_of schema e.pred) e.back) ≡ true → (n : ℕ) → length (children graph ds vars e args dirs n) ≤ 1
+    short_list single n =
+        let which = sort_single (definition_of schema e.pred) e.back single in
+        let along : nodes_along graph e n ≡ filter_map node_in (objects graph e.pred n) = λ i. if which.0 i then subjects_of graph e.pred (Uid n) else filter_map node_in (objects graph e.pred n) in
+        omega (
+          arith,
+          list_short args (keys_for graph ds vars args) (λ m. list_all (text_passes graph (names_for false ds) vars m) (filters_in dirs)) (nodes_along graph e n),
+          ap length along,
+          one_node schema graph e.pred n lawful.single which.1,
+        )
+
+    cut_alike : (n : ℕ) → cut_to (is_single (sort_of (definition_of schema e.pred) e.back)) (planned_list graph vars e args by_keys filters n) ≡ children graph ds vars e args dirs n
+    cut_alike n =
+        ap (cut_to (is_single (sort_of (definition_of schema e.pred) e.back))) (list_alike n)
+        ∙ cut_same (is_single (sort_of (definition_of schema e.pred) e.back)) (children graph ds vars e args dirs n) (λ single. short_list single n)
+
+    -- an edge, where the fields in its braces are alike
+    edge_alike : (braces : List QField) (inner : List Kept) → ((m : ℕ) → planned_at schema graph vars braces inner m ≡ fields_at schema graph ds vars braces m) → (n : ℕ)
+        → kept_trees schema graph vars e args braces (Item-F.Edge by_keys filters inner) n
+        ≡ edge_shown (sort_of (definition_of schema e.pred) e.back) (shown (definition_of schema e.pred) (objects graph e.pred n)) (all_count_keys braces) (fields_at schema graph ds vars braces) (children graph ds vars e args dirs n)
+    edge_alike braces inner inside n =
+        λ i. edge_shown (sort_of (definition_of schema e.pred) e.back) (shown (definition_of schema e.pred) (objects graph e.pred n)) (all_counts schema graph vars braces i) (λ m. inside m i) (cut_alike n i)
+
+    item_alike : (braces : Option (List QField)) (inner : List Kept) → ((m : ℕ) → planned_at schema graph vars (in_braces braces) inner m ≡ fields_at schema graph ds vars (in_braces braces) m) → (n : ℕ)
+        → trees_of schema graph vars (items.Edge e args dirs braces) (kept.Edge by_keys filters inner) n ≡ (shown_item schema graph ds vars (items.Edge e args dirs braces)).at n
+    item_alike None inner inside n =
+        (λ i. trees_bare schema graph vars (items.Edge e args dirs None) (kept.Edge by_keys filters inner) e args dirs refl i n)
+        ∙ (λ i. kept_trees schema graph vars e args [] (kept.outs-Edge by_keys filters inner i) n)
+        ∙ edge_alike [] inner inside n
+        ∙ sym (text_edge schema graph ds vars e args dirs n None)
+    item_alike (Some braces) inner inside n =
+        (λ i. trees_edge schema graph vars (items.Edge e args dirs (Some braces)) (kept.Edge by_keys filters inner) e args dirs braces refl i n)
+        ∙ (λ i. kept_trees schema graph vars e args braces (kept.outs-Edge by_keys filters inner i) n)
+        ∙ edge_alike braces inner inside n
+        ∙ sym (text_edge schema graph ds vars e args dirs n (Some braces))
+
+  mutual
+    item_means : (q : QItem) (k : Item) → IsItemOf schema ds q k → (n : ℕ) → trees_of schema graph vars q k n ≡ (shown_item schema graph ds vars q).at n
+    item_means q k uid n = trees_uid schema graph vars items.Uid kept.Plain refl n ∙ sym (text_uid schema graph ds vars n)
+    item_means q k count_uid n = trees_count_uid schema graph vars items.CountUid kept.Plain refl n ∙ sym (text_count_uid schema graph ds vars n)
+    item_means q k (count e) n = trees_count schema graph vars (items.Count e) kept.Plain e refl n ∙ sym (text_count schema graph ds vars e n)
+    item_means q k (val x place h) n =
+        trees_val schema graph vars (items.Val x) (kept.Val place) x refl n
+        ∙ (λ i. value_kept vars n (kept.outs-Val place i))
+        ∙ ap (λ at. map value_tree (option_to_list (value_at vars at n))) h.0
+        ∙ sym (text_val schema graph ds vars x n)
+    item_means q k (agg op x place h) n = trees_agg schema graph vars (items.Agg op x) (kept.Val place) op x refl n ∙ sym (text_agg schema graph ds vars op x n)
+    item_means q k (edge e args list braces by_keys filters inner keys_are filters_are are) n =
+        item_alike e args list by_keys filters keys_are.0 filters_are braces inner (λ m. fields_mean (in_braces braces) inner are m) n
+
+    fields_mean : (qs : List QField) (ks : List Kept) → AreFieldsOf schema ds qs ks → (n : ℕ) → planned_at schema graph vars qs ks n ≡ fields_at schema graph ds vars qs n
+    fields_mean qs ks no_field n = refl
+    fields_mean qs ks (more_fields q k qs' ks' var is are) n =
+        let here = field_is schema graph vars q k n ∙ (ap (map (under (key_of q))) (item_means q.item k.item is n) ∙ sym (text_field schema graph ds vars q n)) in
+        let rest = fields_mean qs' ks' are n in
+        λ i. here i ++ rest i
+
+  -- by the plan it is what it is by the text
+  pub planned_means : (qs : List QField) (ks : List Kept) → AreFieldsOf schema ds qs ks → (n : ℕ) → planned_at schema graph vars qs ks n ≡ fields_at schema graph ds vars qs n
+  planned_means = fields_mean

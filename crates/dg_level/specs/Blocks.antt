@@ -1,0 +1,56 @@
+-- What a query answers, by its text.
+use Rattle.std.specs.Prelude.{ℕ, false, Bool, if◌then◌else◌, List, [], ◌∷◌, Option, Some, None, flat_map, codes}
+use Rattle.std.specs.Str.{bytes_eq}
+use Rattle.dg_schema.specs.declared.definition.PredDef.{PredDef}
+use Rattle.dg_graph.specs.declared.change.Triple.{Triple}
+use Rattle.dg_parse.specs.declared.query.QBlock.{QBlock}
+use Rattle.dg_parse.specs.declared.query.QFunc.{QFunc}
+use Rattle.dg_parse.specs.declared.query.Query.{Query}
+use Rattle.dg_check.specs.declared.vars.Variable.{Variable}
+use Rattle.dg_check.specs.Places.{places_of_query}
+use Rattle.dg_check.specs.Variables.{Definition, definitions_in, names_for}
+use Rattle.dg_funcs.specs.Meaning.{text_root_nodes}
+use Rattle.dg_shape.specs.Orders.{ordered, page}
+use Rattle.dg_tree.specs.declared.tree.Tree.{Tree}
+use Rattle.dg_tree.specs.declared.tree.Tree.TheVariants as trees
+use Rattle.dg_tree.specs.declared.tree.Field.{Field}
+use Rattle.dg_level.specs.Lists.{keys_for, passed_all}
+use Rattle.dg_level.specs.Shown.{under, list_shown, counts_in, fields_at}
+
+-- ---- the nodes of a block
+
+-- the nodes that a function gives at a root, where there is one
+abbrev pub nodes_at_root : List Triple → List Definition → List Variable → Option QFunc → List ℕ
+nodes_at_root graph ds vars None = []
+nodes_at_root graph ds vars (Some f) = text_root_nodes graph (names_for false ds) vars f
+
+-- the list of a block: those of its root at which each filter passes, in order, and cut
+abbrev pub nodes_of_block : List Triple → List Definition → List Variable → QBlock → List ℕ
+nodes_of_block graph ds vars block = page block.args (ordered (keys_for graph ds vars block.args) (passed_all graph ds vars block.dirs (nodes_at_root graph ds vars block.func)))
+
+-- ---- what is shown
+
+-- a block of the name `var`, which isn't shown
+abbrev pub is_hidden : QBlock → Bool
+is_hidden block = bytes_eq block.name (codes "var")
+
+-- what the nodes of a list show: an array, also where nothing stands in it
+abbrev pub array_shown : List PredDef → List Triple → List Definition → List Variable → QBlock → List ℕ → Tree
+array_shown schema graph ds vars block nodes = trees.Array (list_shown (counts_in schema graph ds vars block.fields) (fields_at schema graph ds vars block.fields) nodes)
+
+-- the same under the block's name
+abbrev pub nodes_shown : List PredDef → List Triple → List Definition → List Variable → QBlock → List ℕ → Field
+nodes_shown schema graph ds vars block nodes = under block.name (array_shown schema graph ds vars block nodes)
+
+-- what a block shows
+abbrev pub block_shown : List PredDef → List Triple → List Definition → List Variable → QBlock → List Field
+block_shown schema graph ds vars block = if is_hidden block then [] else nodes_shown schema graph ds vars block (nodes_of_block graph ds vars block) ∷ []
+
+-- what blocks show, in their order
+abbrev pub blocks_shown : List PredDef → List Triple → List Definition → List Variable → List QBlock → List Field
+blocks_shown schema graph ds vars blocks = flat_map (block_shown schema graph ds vars) blocks
+
+-- what a query answers: its blocks in the order of the text, without those that are hidden. It is for the queries that
+-- `is_built` tells: no variable has a value, and directives are filters.
+abbrev pub answer_of : List PredDef → List Triple → Query → List Field
+answer_of schema graph query = blocks_shown schema graph (definitions_in schema (places_of_query query)) [] query.blocks

@@ -1,0 +1,149 @@
+// The list of a block, and the array of what its nodes show.
+ghost use Rattle.std.specs.Prelude.{◌≡◌, ◌<◌, ◌∷◌, [], List, length, IfOk, IsErrOf};
+ghost use Rattle.std.specs.Ordering.{nat_cmp};
+ghost use Rattle.dg_values.specs.Ascending.{ascending};
+ghost use Rattle.dg_graph.specs.Graphs.{IsLawful};
+ghost use Rattle.dg_check.specs.Parts.{IsBlockOf};
+ghost use Rattle.dg_check.specs.Variables.{Definition};
+ghost use Rattle.dg_funcs.specs.Laws.{AreOfKind};
+ghost use Rattle.dg_shape.specs.Orders.{ordered, page};
+ghost use Rattle.dg_tree.specs.Texts.{tree_text};
+ghost use Rattle.dg_level.specs.Blocks.{nodes_of_block, array_shown};
+ghost use Rattle.dg_level.specs.Planned.{planned_keys};
+ghost use Rattle.dg_level.specs.PlannedBlocks.{planned_root, planned_nodes};
+
+use crate::keys::counts_of;
+use crate::lists::passing_each;
+use crate::order_keys::{key_values, keys_over};
+use crate::writing::number_objects;
+use crate::{Rows, rows_of};
+use dg_check::{Func, OrderKey, Parts, Vars};
+use dg_funcs::{meanings, root};
+use dg_graph::Snapshot;
+use dg_parse::{QArg, QBlock};
+use dg_shape::{order, page};
+use dg_tree::TreeFault;
+use dg_uids::Uids;
+use dg_values::{Mem, OutOfMemory, Steps};
+use std::alloc::Global;
+use std::sync::ledger::Ledger;
+
+// The bytes that an answer may have.
+const MOST: usize = 16_777_216;
+
+// The nodes of a root, where there is one.
+fn nodes_of_root<S: Snapshot, L: Ledger>(
+    alloc: Global,
+    snap: &S,
+    func: &Option<Func>,
+    vars: &Vars,
+    reads: &mut Steps<L>,
+) -> Mem<Uids>
+    ensures { IsLawful (S.declared snap.now) (S.graph snap.now) → IfOk result (λ uids. uids ≡ planned_root (S.graph snap.now) vars.now.variables func.now) }
+{
+    match func {
+        None => Ok(Uids::gathered(Vec::new(alloc))),
+        Some(func) => root(alloc, snap, func, vars, reads),
+    }
+}
+
+// Nodes in order, and cut. A value of a predicate is looked up once for each node.
+fn put_in_order<S: Snapshot, L: Ledger>(
+    alloc: Global,
+    snap: &S,
+    args: &[QArg],
+    orders: &[OrderKey],
+    nodes: &Uids,
+    vars: &Vars,
+    reads: &mut Steps<L>,
+) -> Mem<Vec<u64>>
+    ensures { IfOk result (λ list. list.items ≡ page args.now (ordered (planned_keys (S.graph snap.now) vars.now.variables orders.now) nodes.now)) }
+{
+    let values = key_values(alloc, snap, orders, vars, nodes, reads)?;
+    let by = keys_over(alloc, orders, values.as_slice())?;
+    Ok(page(order(alloc, nodes, by.as_slice())?, args))
+}
+
+// The list of a block, by the plan.
+fn planned_nodes<S: Snapshot, L: Ledger>(
+    alloc: Global,
+    snap: &S,
+    args: &[QArg],
+    kept: &Parts,
+    vars: &Vars,
+    reads: &mut Steps<L>,
+) -> Mem<Vec<u64>>
+    ensures { IsLawful (S.declared snap.now) (S.graph snap.now) → IfOk result (λ list. list.items ≡ planned_nodes (S.graph snap.now) vars.now.variables args.now kept.now) }
+{
+    let nodes = nodes_of_root(alloc, snap, &kept.root, vars, reads)?;
+    let nodes = passing_each(alloc, snap, kept.filters.as_slice(), nodes, vars, reads)?;
+    put_in_order(
+        alloc,
+        snap,
+        args,
+        kept.orders.as_slice(),
+        &nodes,
+        vars,
+        reads,
+    )
+}
+
+/// The list of a block: the nodes of its root that pass its filters, in order, and cut. The error is want of memory.
+pub fn nodes_of<S: Snapshot, L: Ledger>(
+    alloc: Global,
+    snap: &S,
+    block: &QBlock,
+    kept: &Parts,
+    vars: &Vars,
+    reads: &mut Steps<L>,
+) -> Mem<Vec<u64>>
+    ensures { (ds : List Definition) → IsLawful (S.declared snap.now) (S.graph snap.now) → AreOfKind ds vars.now.variables → IsBlockOf (S.declared snap.now) ds block.now kept.now
+        → IfOk result (λ list. list.items ≡ nodes_of_block (S.graph snap.now) ds vars.now.variables block.now) }
+{
+    meanings();
+    planned_nodes(alloc, snap, block.args.as_slice(), kept, vars, reads)
+}
+
+// The nodes of a list, as a set.
+fn level_of(alloc: Global, list: &[u64]) -> Mem<Uids>
+    ensures { IfOk result (λ uids. uids ≡ ascending nat_cmp list.now) }
+{
+    Ok(Uids::gathered(Vec::from_slice(alloc, list)?))
+}
+
+/// The array of what the nodes of a list show, as the one row. What a node shows is made once, in a level of all of them.
+///
+/// `TooLarge` comes only where the array has more than 16,777,216 bytes. The other error is want of memory.
+pub fn array_shown<S: Snapshot, L: Ledger>(
+    alloc: Global,
+    snap: &S,
+    block: &QBlock,
+    kept: &Parts,
+    vars: &Vars,
+    list: &[u64],
+    reads: &mut Steps<L>,
+) -> Result<Rows, TreeFault>
+    ensures ok { (ds : List Definition) → IsLawful (S.declared snap.now) (S.graph snap.now) → AreOfKind ds vars.now.variables → IsBlockOf (S.declared snap.now) ds block.now kept.now
+        → IfOk result (λ rows. rows.rows ≡ tree_text (array_shown (S.declared snap.now) (S.graph snap.now) ds vars.now.variables block.now list.now) ∷ []) }
+    ensures too_large { (ds : List Definition) → IsLawful (S.declared snap.now) (S.graph snap.now) → AreOfKind ds vars.now.variables → IsBlockOf (S.declared snap.now) ds block.now kept.now
+        → IsErrOf result TreeFault.TooLarge → 16777216 < length (tree_text (array_shown (S.declared snap.now) (S.graph snap.now) ds vars.now.variables block.now list.now)) }
+{
+    let fields = block.fields.as_slice();
+    let level = level_of(alloc, list)?;
+    let below = rows_of(
+        alloc,
+        snap,
+        MOST,
+        fields,
+        kept.fields.as_slice(),
+        vars,
+        &level,
+        reads,
+    )?;
+    let counts = counts_of(alloc, fields)?;
+    let front = number_objects(alloc, list.len(), counts.as_slice())?;
+    let mut array = Rows::within(alloc, MOST);
+    array.array(front.as_slice(), list, &level, &below)?;
+    array.close()?;
+    Ok(array)
+}
