@@ -1,5 +1,5 @@
 -- What an edge shows: values, or nodes of the level below.
-use Rattle.std.proofs.Common.{◌≡◌, ℕ, Bool, true, false, List, [], ◌∷◌, ◌++◌, map, flat_map, refl, sym, ap, ◌∙◌, true≢false}
+use Rattle.std.proofs.Common.{◌≡◌, ℕ, true, false, List, [], ◌∷◌, flat_map, refl, sym, ap, ◌∙◌, true≢false}
 use Rattle.dg_schema.specs.declared.definition.PredDef.{PredDef}
 use Rattle.dg_schema.specs.Definitions.{definition_of}
 use Rattle.dg_graph.specs.declared.change.Triple.{Triple}
@@ -14,7 +14,6 @@ use Rattle.dg_check.specs.declared.parts.Item.TheVariants as kept
 use Rattle.dg_check.specs.declared.parts.Item.TheViews.{out-Item}
 use Rattle.dg_check.specs.declared.parts.OrderKey.{OrderKey}
 use Rattle.dg_check.specs.declared.vars.Variable.{Variable}
-use Rattle.dg_tree.specs.declared.tree.Field.{Field}
 use Rattle.dg_tree.specs.declared.tree.Tree.{Tree}
 use Rattle.dg_level.specs.declared.sorts.Sort.{Sort}
 use Rattle.dg_level.specs.declared.sorts.Sort.TheVariants as sorts

@@ -5,6 +5,7 @@ pub mod PartLaws
 pub mod ListLaws
 pub mod OrderLaws
 pub mod ValueLaws
+pub mod FormLaws
 pub mod ShownLaws
 pub mod PlannedLaws
 pub mod WritingLaws
@@ -13,7 +14,6 @@ pub mod EdgeLaws
 pub mod ShortLaws
 pub mod TextLaws
 pub mod MeaningLaws
-pub mod FormLaws
 pub mod BlockLaws
 pub mod BlockMeanings
 pub mod RunLaws

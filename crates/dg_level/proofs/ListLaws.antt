@@ -1,13 +1,11 @@
 -- Lists of nodes, and the level below them.
-use Rattle.std.proofs.Common.{◌≡◌, ℕ, ◌+◌, ◌<◌, Bool, true, false, List, [], ◌∷◌, ◌++◌, map, flat_map, take, length, get_or, refl, sym, ap, ◌∙◌}
-use Rattle.std.proofs.lemmas.List.{take_more}
+use Rattle.std.proofs.Common.{◌≡◌, ℕ, Bool, true, false, List, [], ◌∷◌, map, flat_map, refl, sym, ap, ◌∙◌}
 use Rattle.std.specs.Prelude.{◌&&◌, ◌||◌, filter}
-use Rattle.std.specs.List.{AllByRecursion}
 use Rattle.std.specs.Ordering.{nat_cmp}
 use Rattle.dg_values.specs.Ascending.{Ascends, ascending, has}
 use Rattle.dg_sets.proofs.MadeOrders.{nat_order}
 use Rattle.dg_sets.proofs.OnceEach.{ascending_ascends}
-use Rattle.dg_sets.proofs.Sets.{one_list, from_each, has_joined, has_passed, has_more}
+use Rattle.dg_sets.proofs.Sets.{one_list, has_joined, has_passed, has_more}
 use Rattle.dg_uids.specs.Sets.{common}
 use Rattle.dg_graph.specs.declared.change.Triple.{Triple}
 use Rattle.dg_check.specs.declared.parts.Filter.{Filter}
@@ -24,14 +22,6 @@ pub ascending_same : (xs : List ℕ) → Ascends nat_cmp xs → ascending nat_cm
 ascending_same xs a = one_list nat_cmp nat_order (ascending nat_cmp xs) xs (ascending_ascends nat_cmp nat_order xs) a (ascending_has xs)
 
 -- ---- maps
-
-pub map-joined : {X Y : Type 0} (f : X → Y) (xs ys : List X) → map f (xs ++ ys) ≡ map f xs ++ map f ys
-map-joined f [] ys = refl
-map-joined f (x ∷ xs) ys = ap (λ zs. f x ∷ zs) (map-joined f xs ys)
-
--- one element more
-pub map_more : {X Y : Type 0} (f : X → Y) (xs : List X) (i : ℕ) (d : X) → i < length xs → map f (take (i + 1) xs) ≡ map f (take i xs) ++ f (get_or xs i d) ∷ []
-map_more f xs i d lt = ap (map f) (take_more xs i d lt) ∙ map-joined f (take i xs) (get_or xs i d ∷ [])
 
 -- one map after another
 pub map_twice : {X Y Z : Type 0} (f : Y → Z) (g : X → Y) (xs : List X) → map f (map g xs) ≡ map (λ x. f (g x)) xs

@@ -1,12 +1,11 @@
 -- What fields show by the plan is what they show by their text.
-use Rattle.std.proofs.Common.{◌≡◌, ℕ, ◌≤◌, Bool, true, false, List, [], ◌∷◌, ◌++◌, map, take, length, refl, sym, ap, ◌∙◌, subst, arith, true≢false}
+use Rattle.std.proofs.Common.{◌≡◌, ℕ, ◌≤◌, Bool, true, false, List, [], ◌∷◌, ◌++◌, map, take, length, refl, sym, ap, ◌∙◌, arith}
 use Rattle.std.specs.Prelude.{◌&&◌, if◌then◌else◌, Option, Some, None, option_to_list, filter, filter_map}
 use Rattle.std.specs.List.{AllByRecursion, list_all}
 use Rattle.std.specs.declared.cmp.Ordering.TheVariants.{Less}
 use Rattle.std.specs.Ordering.{nat_cmp}
-use Rattle.dg_values.specs.Ascending.{Ascends, ascending}
+use Rattle.dg_values.specs.Ascending.{Ascends}
 use Rattle.dg_values.specs.Order.{posting_cmp}
-use Rattle.dg_values.specs.declared.value.Value.{Value}
 use Rattle.dg_values.specs.declared.value.Posting.{Posting}
 use Rattle.dg_values.specs.declared.value.Posting.TheVariants.{Uid, Val}
 use Rattle.dg_schema.specs.declared.definition.PredDef.{PredDef}
@@ -33,20 +32,17 @@ use Rattle.dg_check.specs.declared.parts.Item.TheVariants as kept
 use Rattle.dg_check.specs.declared.parts.OrderKey.{OrderKey}
 use Rattle.dg_check.specs.declared.vars.Variable.{Variable}
 use Rattle.dg_check.specs.Parts.{AreFiltersOf, no_filter, more_filters, filters_in, in_braces, IsItemOf, uid, count_uid, count, val, agg, edge, AreFieldsOf, no_field, more_fields}
-use Rattle.dg_check.specs.Plans.{place_of, by_of, keys_of}
+use Rattle.dg_check.specs.Plans.{by_of, keys_of}
 use Rattle.dg_check.specs.Variables.{Definition, names_for}
 use Rattle.dg_check.specs.Vars.{value_at}
 use Rattle.dg_funcs.specs.Truth.{passes, nodes_along}
 use Rattle.dg_funcs.specs.Meaning.{text_passes}
 use Rattle.dg_funcs.specs.Laws.{AreOfKind, FiltersMeanTheirTexts}
 use Rattle.dg_shape.specs.Orders.{ordered, page}
-use Rattle.dg_tree.specs.declared.tree.Field.{Field}
-use Rattle.dg_tree.specs.declared.tree.Tree.{Tree}
-use Rattle.dg_level.specs.declared.sorts.Sort.{Sort}
 use Rattle.dg_level.specs.Answers.{value_tree, shown}
 use Rattle.dg_level.specs.Lists.{value_for, keys_for, children}
-use Rattle.dg_level.specs.Shown.{sort_of, under, edge_shown, shown_field, fields_at}
-use Rattle.dg_level.specs.Planned.{value_by, planned_keys, planned_list, value_kept, is_single, cut_to, planned_field, planned_at}
+use Rattle.dg_level.specs.Shown.{sort_of, under, edge_shown, fields_at}
+use Rattle.dg_level.specs.Planned.{value_by, planned_keys, planned_list, value_kept, is_single, cut_to, planned_at}
 use Rattle.dg_level.specs.Keys.{all_count_keys}
 use Rattle.dg_level.specs.Levels.{trees_of, kept_trees}
 use Rattle.dg_level.proofs.ListLaws.{ascending_same}
@@ -83,7 +79,7 @@ module _ (graph : List Triple) (ds : List Definition) (vars : List Variable) whe
   value_alike (orders.Pred p) = refl
   value_alike (orders.Val x) = refl
 
-  keys_alike : (args : List QArg) → planned_keys graph vars (keys_of ds args) ≡ keys_for graph ds vars args
+  pub keys_alike : (args : List QArg) → planned_keys graph vars (keys_of ds args) ≡ keys_for graph ds vars args
   keys_alike [] = refl
   keys_alike (arguments.First n ∷ args) = keys_alike args
   keys_alike (arguments.Offset n ∷ args) = keys_alike args
@@ -99,7 +95,7 @@ module _ (schema : List PredDef) (ds : List Definition) (graph : List Triple) (v
       by true = subjects_ascend graph e.pred (Uid n)
       by false = nodes_ascend (objects graph e.pred n) (objects_ascend graph e.pred n lawful.ascend)
 
-  filters_alike : (n : ℕ) (qs : List QFilter) (fs : List Filter) → AreFiltersOf schema ds qs fs → list_all (passes graph vars n) fs ≡ list_all (text_passes graph (names_for false ds) vars n) qs
+  pub filters_alike : (n : ℕ) (qs : List QFilter) (fs : List Filter) → AreFiltersOf schema ds qs fs → list_all (passes graph vars n) fs ≡ list_all (text_passes graph (names_for false ds) vars n) qs
   filters_alike n qs fs no_filter = refl
   filters_alike n qs fs (more_filters q f qs' fs' is are) =
       let one = sym (filters_mean schema ds graph vars n q f lawful of_kind is) in

@@ -1,9 +1,7 @@
 -- What fields show by the plan, item by item, and how many bytes it has.
-use Rattle.std.proofs.Common.{◌≡◌, ℕ, ◌+◌, ◌<◌, ◌≤◌, Bool, true, false, List, [], ◌∷◌, ◌++◌, map, flat_map, take, length, refl, sym, ap, ◌∙◌, subst, arith, length-append, true≢false}
+use Rattle.std.proofs.Common.{◌≡◌, ℕ, ◌≤◌, List, [], ◌∷◌, ◌++◌, map, flat_map, length, refl, sym, ap, ◌∙◌, arith, length-append}
 use Rattle.std.proofs.lemmas.List.{map-append}
-use Rattle.std.specs.Prelude.{pos, Option, Some, None, unwrap_or, if◌then◌else◌, option_to_list}
-use Rattle.std.specs.Ordering.{nat_cmp}
-use Rattle.dg_values.specs.Ascending.{ascending}
+use Rattle.std.specs.Prelude.{pos, Some, None, unwrap_or, if◌then◌else◌}
 use Rattle.dg_text.specs.Spelling.{uid_text}
 use Rattle.dg_schema.specs.declared.definition.PredDef.{PredDef}
 use Rattle.dg_graph.specs.declared.change.Triple.{Triple}
@@ -22,17 +20,16 @@ use Rattle.dg_check.specs.declared.parts.Item.{Item}
 use Rattle.dg_check.specs.declared.parts.Item.TheViews.{out-Item}
 use Rattle.dg_check.specs.declared.vars.Variable.{Variable}
 use Rattle.dg_funcs.specs.Truth.{count_along}
-use Rattle.dg_tree.specs.declared.tree.Field.{Field}
 use Rattle.dg_tree.specs.declared.tree.Tree.{Tree}
 use Rattle.dg_tree.specs.declared.tree.Tree.TheVariants as trees
 use Rattle.dg_tree.specs.Texts.{tree_text, field_text}
-use Rattle.dg_level.specs.Rows.{total, row_text, objects_of, array_of}
-use Rattle.dg_level.specs.Shown.{under, is_count, edge_shown}
+use Rattle.dg_level.specs.Rows.{total, row_text}
+use Rattle.dg_level.specs.Shown.{under, is_count}
 use Rattle.dg_level.specs.Planned.{PlannedItem, PlannedField, planned_counts, value_kept, step_of_item, step_of_field, planned_field, planned_at}
 use Rattle.dg_level.specs.Keys.{count_keys, all_count_keys}
-use Rattle.dg_level.specs.Columns.{FieldsOf, TreesOf, sort_below, shown_by, bytes_of}
+use Rattle.dg_level.specs.Columns.{TreesOf, shown_by}
 use Rattle.dg_level.specs.Levels.{planned_item, trees_of, all_trees, all_fields, kept_trees, all_bytes}
-use Rattle.dg_level.proofs.RowLaws.{total_first, total_joined, longer_field, fields_within, columns_within, level_within}
+use Rattle.dg_level.proofs.RowLaws.{total_first, total_joined, longer_field, fields_within, columns_within}
 
 module _ (schema : List PredDef) (graph : List Triple) (vars : List Variable) where
   -- ---- items

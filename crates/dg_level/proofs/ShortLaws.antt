@@ -1,27 +1,25 @@
 -- A single edge leads to one node at most.
-use Rattle.std.proofs.Common.{◌≡◌, ℕ, suc, ◌+◌, ◌≤◌, Bool, true, false, cond, not, List, [], ◌∷◌, map, fold, take, drop, length, refl, sym, ap, ◌∙◌, subst, arith, true≢false}
+use Rattle.std.proofs.Common.{◌≡◌, ℕ, suc, ◌+◌, ◌≤◌, Bool, true, false, cond, not, List, [], ◌∷◌, fold, take, drop, length, refl, sym, ◌∙◌, subst, arith, true≢false}
 use Rattle.std.specs.Prelude.{◌&&◌, ◌||◌, ◌-◌, ℤ, pos, negsuc, Option, Some, None, filter, filter_map, nat_lt}
-use Rattle.std.specs.List.{list_any, cons_option}
+use Rattle.std.specs.List.{list_any}
 use Rattle.std.specs.declared.cmp.Ordering.{Ordering}
 use Rattle.std.specs.declared.cmp.Ordering.TheVariants.{Less, Equal, Greater}
 use Rattle.std.proofs.lemmas.Bool.{and_parts}
 use Rattle.std.proofs.lemmas.List.{length-take, length-drop, length-map}
 use Rattle.dg_values.specs.declared.kind.Kind.{Kind}
 use Rattle.dg_values.specs.declared.kind.Kind.TheVariants as kinds
-use Rattle.dg_values.specs.Ascending.{placed, with_one, ascending}
+use Rattle.dg_values.specs.Ascending.{placed, with_one}
 use Rattle.dg_values.specs.declared.value.Value.{Value}
 use Rattle.dg_values.specs.declared.value.Posting.{Posting}
 use Rattle.dg_values.specs.declared.value.Posting.TheVariants.{Uid, Val}
 use Rattle.dg_schema.specs.declared.definition.PredDef.{PredDef}
-use Rattle.dg_schema.specs.Definitions.{definition_of, is_single, is_single_by}
+use Rattle.dg_schema.specs.Definitions.{is_single, is_single_by}
 use Rattle.dg_graph.specs.declared.change.Triple.{Triple}
 use Rattle.dg_graph.specs.Graphs.{is_of_subject, objects, stands_alone, has_single_objects}
 use Rattle.dg_graph.specs.Lookups.{node_in}
 use Rattle.dg_graph.proofs.GraphLaws.{same_subject}
 use Rattle.dg_parse.specs.declared.query.QArg.{QArg}
 use Rattle.dg_shape.specs.Orders.{node_cmp, ordered, first_in, offset_in, after_in, above, past, at_most, page}
-use Rattle.dg_level.specs.declared.sorts.Sort.{Sort}
-use Rattle.dg_level.specs.declared.sorts.Sort.TheVariants as sorts
 use Rattle.dg_level.specs.Shown.{sort_of_kind, sort_of}
 use Rattle.dg_level.specs.Planned.{is_single as is_one}
 

@@ -1,24 +1,24 @@
 -- The texts of what nodes show under an edge, by the rows of the level below.
-use Rattle.std.proofs.Common.{◌≡◌, ℕ, zero, suc, ◌+◌, ◌<◌, ◌≤◌, Bool, true, false, List, [], ◌∷◌, ◌++◌, map, flat_map, take, length, refl, sym, ap, ◌∙◌, subst, arith, append-nil, length-append, true≢false}
+use Rattle.std.proofs.Common.{◌≡◌, ℕ, zero, suc, ◌+◌, ◌≤◌, Bool, true, false, List, [], ◌∷◌, ◌++◌, map, flat_map, take, length, refl, sym, ap, ◌∙◌, arith, append-nil, length-append, true≢false}
 use Rattle.std.proofs.lemmas.List.{map-append}
 use Rattle.std.proofs.lemmas.List.Folds.{flat_map-map}
-use Rattle.std.specs.Prelude.{pos, ◌||◌, Some, None, slice_get, option_map}
+use Rattle.std.specs.Prelude.{pos, ◌||◌, Some, slice_get, option_map}
 use Rattle.std.specs.Fmt.{signed_decimal}
-use Rattle.std.specs.Ordering.{nat_cmp, is_eq}
+use Rattle.std.specs.Ordering.{nat_cmp}
 use Rattle.dg_values.specs.Ascending.{ascending, has}
 use Rattle.dg_sets.proofs.MadeOrders.{nat_order}
-use Rattle.dg_sets.proofs.Sets.{from_each, has_joined, is_itself}
+use Rattle.dg_sets.proofs.Sets.{from_each, has_joined}
 use Rattle.dg_funcs.proofs.PassLaws.{or_true}
 use Rattle.dg_tree.specs.declared.tree.Tree.{Tree, Tree-F, fold-roll-Tree}
 use Rattle.dg_tree.specs.declared.tree.Tree.TheVariants as trees
 use Rattle.dg_tree.specs.declared.tree.Field.{Field}
-use Rattle.dg_tree.specs.Texts.{with_commas, array_text, key_text, text_of_tree, text_of_field, tree_text, field_text}
+use Rattle.dg_tree.specs.Texts.{key_text, text_of_tree, text_of_field, tree_text, field_text}
 use Rattle.dg_level.specs.declared.column.Below.{Below}
-use Rattle.dg_level.specs.Rows.{total, row_text, braced, objects_of, shown_array, array_of, with_fields, AreOfLevel}
+use Rattle.dg_level.specs.Rows.{total, row_text, braced, objects_of, shown_array, array_of, AreOfLevel}
 use Rattle.dg_level.specs.Shown.{under, node_of, number_under, list_shown, as_array, first_tree, as_single, edge_shown}
 use Rattle.dg_level.specs.Planned.{cut_to}
 use Rattle.dg_level.specs.Columns.{FieldsOf, TreesOf, number_object, is_alone, sort_below, IsBelow, bytes_of}
-use Rattle.dg_level.proofs.RowLaws.{text_of, total_first, total_joined, node_text, array_of_trees, object_first, shown_within, rows_within, level_within}
+use Rattle.dg_level.proofs.RowLaws.{text_of, total_first, node_text, array_of_trees, object_first, shown_within, rows_within, level_within}
 use Rattle.dg_level.proofs.ListLaws.{map_twice, map_same, ascending_has}
 
 -- trees under a key, behind its text
@@ -53,7 +53,7 @@ numbers_shown number names =
     ∙ map_same (λ name. tree_text (number_under number name)) (λ name. number_object number (key_text name)) (number_text number) names
     ∙ sym (map_twice (number_object number) key_text names)
 
-list_texts : (names : List (List ℕ)) (at : FieldsOf) (list : List ℕ)
+pub list_texts : (names : List (List ℕ)) (at : FieldsOf) (list : List ℕ)
     → map tree_text (list_shown names at list) ≡ map (number_object (length list)) (map key_text names) ++ objects_of (map (λ n. row_text (at n)) list)
 list_texts names at list =
     map-append tree_text (map (number_under (length list)) names) (flat_map (λ n. node_of (at n)) list)

@@ -1,5 +1,5 @@
 -- What fields show by their text, item by item.
-use Rattle.std.proofs.Common.{◌≡◌, ℕ, Bool, true, false, List, [], ◌∷◌, ◌++◌, map, flat_map, refl, sym, ap, ◌∙◌}
+use Rattle.std.proofs.Common.{◌≡◌, ℕ, List, [], ◌∷◌, ◌++◌, map, refl, sym, ap, ◌∙◌}
 use Rattle.std.specs.Prelude.{pos, Option, Some, None, unwrap_or, if◌then◌else◌, option_to_list}
 use Rattle.dg_text.specs.Spelling.{uid_text}
 use Rattle.dg_schema.specs.declared.definition.PredDef.{PredDef}
@@ -22,7 +22,6 @@ use Rattle.dg_check.specs.Plans.{place_of}
 use Rattle.dg_check.specs.Variables.{Definition}
 use Rattle.dg_check.specs.Vars.{value_at}
 use Rattle.dg_funcs.specs.Truth.{count_along}
-use Rattle.dg_tree.specs.declared.tree.Field.{Field}
 use Rattle.dg_tree.specs.declared.tree.Tree.{Tree}
 use Rattle.dg_tree.specs.declared.tree.Tree.TheVariants as trees
 use Rattle.dg_level.specs.Answers.{value_tree, shown}
@@ -91,7 +90,7 @@ module _ (schema : List PredDef) (graph : List Triple) (ds : List Definition) (v
       ap (λ (p : ShownField). p.counts) (fold_out-QField ShownItem ShownField (step_of_item schema graph ds vars) step_of_field q)
       ∙ λ i. if asks_is q.item i then unwrap_or q.alias (key_is q.item i) ∷ [] else []
 
-  text_counts : (fields : List QField) → counts_of (map (shown_field schema graph ds vars) fields) ≡ all_count_keys fields
+  pub text_counts : (fields : List QField) → counts_of (map (shown_field schema graph ds vars) fields) ≡ all_count_keys fields
   text_counts [] = refl
   text_counts (q ∷ fields) = λ i. counts_is q i ++ text_counts fields i
 

@@ -1,7 +1,6 @@
 -- The values among objects.
 use Rattle.std.proofs.Common.{◌≡◌, List, [], ◌∷◌, flat_map, refl, ap}
 use Rattle.std.specs.Prelude.{filter_map}
-use Rattle.dg_values.specs.declared.value.Value.{Value}
 use Rattle.dg_values.specs.declared.value.Posting.{Posting}
 use Rattle.dg_values.specs.declared.value.Posting.TheVariants.{Uid, Val}
 use Rattle.dg_funcs.specs.Truth.{value_in}

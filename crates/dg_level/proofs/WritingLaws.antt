@@ -1,19 +1,17 @@
 -- A row, column by column, and rows, node by node.
-use Rattle.std.proofs.Common.{◌≡◌, ℕ, zero, suc, ◌+◌, ◌<◌, ◌≤◌, List, [], ◌∷◌, ◌++◌, map, flat_map, take, drop, length, get_or, refl, sym, ap, ◌∙◌, subst, arith, take-append-drop, append-nil}
-use Rattle.std.proofs.lemmas.List.{take_more, take_all, map-append}
+use Rattle.std.proofs.Common.{◌≡◌, ℕ, zero, suc, ◌+◌, ◌<◌, ◌≤◌, List, [], ◌∷◌, ◌++◌, map, take, drop, length, get_or, refl, sym, ap, ◌∙◌, subst, arith, take-append-drop, append-nil}
+use Rattle.std.proofs.lemmas.List.{take_more, take_all, map_more, map-append}
 use Rattle.std.proofs.lemmas.List.Concat.{flat_map-append}
 use Rattle.std.specs.Prelude.{Some, slice_get}
 use Rattle.dg_graph.specs.declared.change.Triple.{Triple}
 use Rattle.dg_check.specs.declared.vars.Variable.{Variable}
-use Rattle.dg_tree.specs.declared.tree.Field.{Field}
 use Rattle.dg_tree.specs.declared.tree.Tree.{Tree}
 use Rattle.dg_tree.specs.Texts.{field_text}
 use Rattle.dg_level.specs.declared.column.Column.{Column}
-use Rattle.dg_level.specs.Rows.{total, row_text, not_empty, with_fields}
+use Rattle.dg_level.specs.Rows.{total, row_text, with_fields}
 use Rattle.dg_level.specs.Shown.{under}
 use Rattle.dg_level.specs.Columns.{FieldsOf, Shows, AreShown, shown_by}
 use Rattle.dg_level.proofs.RowLaws.{total_first, total_joined, parts_within, fields_more}
-use Rattle.dg_level.proofs.ListLaws.{map_more}
 
 -- nothing at any node
 abbrev pub nothing : FieldsOf

@@ -1,10 +1,8 @@
 -- The keys of the fields of a level.
 use Rattle.std.specs.Prelude.{ℕ, Bool, if◌then◌else◌, List, [], ◌∷◌, flat_map}
 use Rattle.dg_parse.specs.declared.query.QField.{QField}
-use Rattle.dg_parse.specs.declared.query.QItem.{QItem}
 use Rattle.dg_parse.specs.declared.query.QItem.TheViews.{out-QItem}
 use Rattle.dg_parse.specs.Keys.{key_of}
-use Rattle.dg_tree.specs.Texts.{key_text}
 use Rattle.dg_level.specs.Shown.{is_count}
 
 -- a field asks for the number of nodes of its list

@@ -4,12 +4,12 @@ pub mod Lists
 pub mod Shown
 pub mod Planned
 pub mod OrderKeys
+pub mod Forms
+pub mod Blocks
+pub mod PlannedBlocks
 pub mod Keeping
 pub mod Parts
 pub mod Rows
 pub mod Columns
 pub mod Keys
 pub mod Levels
-pub mod Forms
-pub mod Blocks
-pub mod PlannedBlocks

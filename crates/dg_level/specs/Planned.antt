@@ -1,5 +1,5 @@
 -- What fields show at a node, by the text together with what a plan keeps of them.
-use Rattle.std.specs.Prelude.{ℕ, pos, Bool, true, false, if◌then◌else◌, List, [], ◌∷◌, ◌++◌, Option, Some, None, option_to_list, map, flat_map, filter, take, unwrap_or}
+use Rattle.std.specs.Prelude.{ℕ, pos, Bool, true, false, if◌then◌else◌, List, [], ◌∷◌, ◌++◌, Option, option_to_list, map, flat_map, filter, take, unwrap_or}
 use Rattle.std.specs.List.{list_all}
 use Rattle.std.specs.Ordering.{nat_cmp}
 use Rattle.dg_values.specs.declared.value.Value.{Value}

@@ -7,9 +7,6 @@ use Rattle.dg_schema.specs.declared.definition.PredDef.{PredDef}
 use Rattle.dg_schema.specs.Definitions.{definition_of}
 use Rattle.dg_graph.specs.declared.change.Triple.{Triple}
 use Rattle.dg_graph.specs.Graphs.{objects}
-use Rattle.dg_parse.specs.declared.query.QArg.{QArg}
-use Rattle.dg_parse.specs.declared.query.QDir.{QDir}
-use Rattle.dg_parse.specs.declared.query.QEdge.{QEdge}
 use Rattle.dg_parse.specs.declared.query.QField.{QField}
 use Rattle.dg_parse.specs.declared.query.QItem.TheOpen.{QItem-F, QField-F}
 use Rattle.dg_parse.specs.declared.query.QItem.TheFolds.{fold-QField}

@@ -64,7 +64,7 @@ fn has_items(front: &[Str], list: &[u64], level: &Uids, below: &Rows) -> bool
     true
 }
 
-// The comma before a part, where another part stands before it.
+/// The comma before a part, where another part stands before it.
 pub fn comma_behind(wrote: bool) -> &'static str
     ensures { result.now ≡ comma_behind wrote }
 {

@@ -19,7 +19,6 @@ mod writing;
 pub use answers::shown;
 pub use form::is_built;
 pub use levels::rows_of;
-pub use lists::{lists_of, nodes_below};
 pub use rows::Rows;
 pub use running::run_plan;
 pub use sorts::{Sort, sort_of};

@@ -61,7 +61,7 @@ fn union(alloc: Global, lists: &[Uids]) -> Mem<Uids>
     Ok(Uids::gathered(found))
 }
 
-// Those of a set that pass each filter.
+/// Those of a set that pass each filter. The error is want of memory.
 pub fn passing_each<S: Snapshot, L: Ledger>(
     alloc: Global,
     snap: &S,

@@ -56,7 +56,7 @@ fn number_object(alloc: Global, number: usize, key: &str) -> Mem<Str>
     Ok(Str::from_string(format!(in alloc; "{{{key}{number}}}")?))
 }
 
-// The objects of a number, one behind the text of each key.
+/// The objects of a number, one behind the text of each key. The error is want of memory.
 pub fn number_objects(alloc: Global, number: usize, keys: &[Str]) -> Mem<Vec<Str>>
     ensures { IfOk result (λ texts. texts.items ≡ map (number_object number) keys.now) }
 {

@@ -1,4 +1,4 @@
-use Rattle.std.proofs.Common.{◌≡◌, ℕ, ◌+◌, ◌-◌, ◌<◌, ◌≤◌, true, false, List, [], ◌∷◌, ◌++◌, map, flat_map, take, length, get_or, refl, sym, ap, subst, ◌∙◌, arith, rules}
+use Rattle.std.proofs.Common.{◌≡◌, ℕ, ◌+◌, ◌-◌, ◌<◌, ◌≤◌, true, false, List, [], ◌∷◌, ◌++◌, map, flat_map, take, length, refl, sym, ap, subst, ◌∙◌, arith, rules}
 use Rattle.std.specs.Prelude.{IfOk, Some, None, option_copied}
 use Rattle.dg_schema.specs.Definitions.{definition_of}
 use Rattle.dg_graph.specs.Graphs.{objects}
@@ -12,7 +12,7 @@ use Rattle.dg_level.specs.Rows.{total, row_text}
 use Rattle.dg_level.specs.Answers.{shown}
 use Rattle.dg_level.specs.Shown.{sort_of}
 use Rattle.dg_level.specs.Planned.{is_single, planned_list, planned_field, planned_at}
-use Rattle.dg_level.specs.Columns.{FieldsOf, TreesOf, IsBelow, AreShown, ShowsBy, shown_by, held_by, room_of, bytes_of}
+use Rattle.dg_level.specs.Columns.{FieldsOf, TreesOf, IsBelow, AreShown, ShowsBy, shown_by, held_by, bytes_of}
 use Rattle.dg_level.specs.Keys.{all_count_keys}
 use Rattle.dg_level.specs.Levels.{trees_of, all_trees, all_fields, list_of, below_trees, leads_to_nodes, own_shown, bare_trees, kept_trees, all_bytes}
 use Rattle.dg_level.proofs.PlannedLaws.{trees_val, trees_edge, trees_bare, shown_is, trees_within}

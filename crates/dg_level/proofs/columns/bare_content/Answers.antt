@@ -1,12 +1,10 @@
-use Rattle.std.proofs.Common.{◌≡◌, ℕ, List, sym, ap, ◌∙◌, subst}
-use Rattle.std.specs.Prelude.{IfOk, Option, option_copied}
-use Rattle.dg_schema.specs.declared.definition.PredDef.{PredDef}
+use Rattle.std.proofs.Common.{◌≡◌, ℕ, sym, ap, ◌∙◌, subst}
+use Rattle.std.specs.Prelude.{IfOk, option_copied}
 use Rattle.dg_schema.specs.Definitions.{definition_of}
 use Rattle.dg_graph.specs.Graphs.{objects}
 use Rattle.dg_check.specs.declared.parts.Item.{Item, Item-F}
 use Rattle.dg_check.specs.declared.parts.Item.TheVariants as kept
 use Rattle.dg_check.specs.declared.parts.Item.TheViews.{out-Item}
-use Rattle.dg_level.specs.declared.sorts.Sort.{Sort}
 use Rattle.dg_level.specs.Answers.{shown}
 use Rattle.dg_level.specs.Shown.{sort_of}
 use Rattle.dg_level.specs.Columns.{TreesOf, ShowsBy}

@@ -1,7 +1,5 @@
 use Rattle.std.proofs.Common.{◌≡◌, ℕ, List, map, ap, subst, ◌∙◌}
-use Rattle.std.specs.Prelude.{IfOk, Option, Bool}
-use Rattle.dg_values.specs.declared.value.Value.{Value}
-use Rattle.dg_check.specs.declared.vars.Variable.{Variable}
+use Rattle.std.specs.Prelude.{IfOk}
 use Rattle.dg_shape.specs.Orders.{ordered, page, meant}
 use Rattle.dg_level.specs.Planned.{planned_keys, cut_to}
 use Rattle.dg_level.specs.OrderKeys.{compared_by, values_among, keyed, known_nodes}

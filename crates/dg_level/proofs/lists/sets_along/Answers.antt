@@ -1,8 +1,8 @@
 use Rattle.std.proofs.Common.{ℕ, ◌<◌, length, rules, arith}
+use Rattle.std.proofs.lemmas.List.{map_more}
 use Rattle.std.specs.Ordering.{nat_cmp}
 use Rattle.dg_values.specs.Ascending.{ascending}
 use Rattle.dg_funcs.specs.Truth.{nodes_along}
-use Rattle.dg_level.proofs.ListLaws.{map_more}
 use Rattle.dg_level.proofs.lists.sets_along.Goals as goal
 
 pub loop-node-preserved : goal.loop-node-preserved

@@ -1,7 +1,6 @@
-use Rattle.std.proofs.Common.{◌≡◌, rules, sym, ap, ◌∙◌}
+use Rattle.std.proofs.Common.{rules}
 use Rattle.std.specs.Prelude.{filter, is_some}
 use Rattle.std.specs.Ordering.{nat_cmp}
-use Rattle.dg_values.specs.Ascending.{Ascends}
 use Rattle.dg_sets.proofs.MadeOrders.{nat_order}
 use Rattle.dg_sets.proofs.Sets.{ascends_passed}
 use Rattle.dg_level.specs.Planned.{value_by}

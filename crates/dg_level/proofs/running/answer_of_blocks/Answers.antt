@@ -1,4 +1,4 @@
-use Rattle.std.proofs.Common.{◌≡◌, ℕ, ◌<◌, List, ◌++◌, length, codes, rules, refl, ap, ◌∙◌, subst}
+use Rattle.std.proofs.Common.{ℕ, ◌<◌, List, ◌++◌, length, codes, rules, refl, ap, ◌∙◌, subst}
 use Rattle.dg_level.specs.Blocks.{blocks_shown}
 use Rattle.dg_level.proofs.BlockLaws.{answered, answer_passes}
 use Rattle.dg_level.proofs.running.answer_of_blocks.Goals as goal

@@ -1,4 +1,4 @@
-use Rattle.std.proofs.Common.{◌≡◌, List, ◌++◌, false, map, take}
+use Rattle.std.proofs.Common.{◌≡◌, List, ◌++◌, false, take}
 use Rattle.dg_graph.specs.Graphs.{IsLawful}
 use Rattle.dg_check.specs.Parts.{AreBlocksOf}
 use Rattle.dg_check.specs.Variables.{Definition}

@@ -1,10 +1,8 @@
-use Rattle.std.proofs.Common.{◌≡◌, ℕ, ◌+◌, ◌<◌, ◌≤◌, List, [], ◌∷◌, ◌++◌, map, take, length, get_or, refl, sym, ap, ◌∙◌, subst, arith, rules}
-use Rattle.std.proofs.lemmas.Result.{on_ok_weaker}
+use Rattle.std.proofs.Common.{◌+◌, ◌<◌, ◌≤◌, [], ◌∷◌, ◌++◌, map, length, refl, ap, ◌∙◌, arith, rules}
 use Rattle.dg_tree.specs.Texts.{field_text}
-use Rattle.dg_level.specs.Rows.{total, row_text, with_fields}
+use Rattle.dg_level.specs.Rows.{total, with_fields}
 use Rattle.dg_level.specs.Shown.{under}
-use Rattle.dg_level.specs.Columns.{shown_by}
-use Rattle.dg_level.proofs.WritingLaws.{nothing, as_many, column_at, row_begins, row_goes_on, row_passes, row_ends}
+use Rattle.dg_level.proofs.WritingLaws.{as_many, column_at, row_begins, row_goes_on, row_passes, row_ends}
 use Rattle.dg_level.proofs.writing.push_row.Goals as goal
 
 pub loop-column-init : goal.loop-column-init

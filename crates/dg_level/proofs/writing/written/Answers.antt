@@ -1,7 +1,7 @@
-use Rattle.std.proofs.Common.{◌≡◌, ℕ, ◌<◌, List, [], ◌∷◌, ◌++◌, map, take, length, get_or, sym, ap, ◌∙◌, arith, rules}
+use Rattle.std.proofs.Common.{ℕ, ◌<◌, List, [], ◌∷◌, ◌++◌, length, get_or, sym, ap, ◌∙◌, arith, rules}
+use Rattle.std.proofs.lemmas.List.{map_more}
 use Rattle.dg_level.specs.Rows.{total, row_text}
 use Rattle.dg_level.specs.Columns.{shown_by}
-use Rattle.dg_level.proofs.ListLaws.{map_more}
 use Rattle.dg_level.proofs.WritingLaws.{node_at, rows_pass}
 use Rattle.dg_level.proofs.writing.written.Goals as goal
 

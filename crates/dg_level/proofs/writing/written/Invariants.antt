@@ -1,4 +1,4 @@
-use Rattle.std.proofs.Common.{◌≡◌, ℕ, List, [], map, take}
+use Rattle.std.proofs.Common.{◌≡◌, List, [], map, take}
 use Rattle.dg_level.specs.Rows.{row_text}
 use Rattle.dg_level.specs.Columns.{FieldsOf, AreShown, shown_by}
 use Rattle.dg_level.proofs.writing.written.Given as goal
