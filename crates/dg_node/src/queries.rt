@@ -6,7 +6,6 @@ ghost use Rattle.dg_check.specs.declared.fault.CheckFault.TheVariants as faults;
 ghost use Rattle.dg_graph.specs.Graphs.{IsLawful};
 ghost use Rattle.dg_parse.specs.Whole.{query_of};
 ghost use Rattle.dg_txn.specs.Own.{graph};
-ghost use Rattle.dg_level.specs.Forms.{is_built};
 ghost use Rattle.dg_node.specs.Machine.{Machine};
 ghost use Rattle.dg_node.specs.Queries.{Queries, QueriesAs, QueriesBy, answer_or_fault, refusal_of_check};
 ghost use Rattle.dg_node.specs.Sessions.{IsSession, Sees};
@@ -31,8 +30,8 @@ use std::sync::ledger::{Blank, Ledger};
 /// Answers a query as a session sees the graph. Nothing changes, but that the maker's list of refused patterns may grow.
 ///
 /// `NoSession` comes where the session has no transaction; then `BadToken`, `TooDeep` and `BadSyntax` at a fault of the text;
-/// then `Unbuilt` where the query has another form than those that are built (`is_built`); then what the checks find; then `AnswerTooLarge`. The
-/// error is want of memory.
+/// then `Unbuilt` where the query is of a form that isn't built (`is_built` of `dg_level`); then what the checks find; then
+/// `AnswerTooLarge`. The error is want of memory.
 pub fn query<P: Patterns>(
     alloc: Global,
     session: &Option<Txn>,
@@ -91,7 +90,6 @@ fn query_built<P: Patterns>(
     query: Query,
     patterns: &mut P,
 ) -> Mem<Reply>
-    requires built { is_built query ≡ true }
     ensures answered { IsLawful txn.now.schema (graph txn.now) → (m : Machine) → IfOk result (λ reply. QueriesBy (P.refused patterns.new) m sid txn.now.schema (graph txn.now) query reply m) }
     ensures grows { IsFrontOf (P.refused patterns.old) (P.refused patterns.new) }
 {
@@ -124,7 +122,6 @@ fn answer<L: Ledger>(alloc: Global, txn: &Txn, sid: u32, plan: &Plan, blank: Bla
     requires name { blank.name ≡ L.name }
     requires parts { blank.parts ≡ L.parts }
     requires some { 0 < blank.parts }
-    requires built { is_built plan.now.query ≡ true }
     requires plan { IsPlanOf txn.now.schema plan.now.query plan.now }
     ensures { IsLawful txn.now.schema (graph txn.now) → (m : Machine) → IfOk result (λ reply. answer_or_fault m sid txn.now.schema (graph txn.now) plan.now.query None ≡ (reply, m)) }
 {
