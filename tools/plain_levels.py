@@ -30,15 +30,13 @@ class Tree(NamedTuple):
 
 
 def sort_of(view: View, edge: Edge) -> Optional[str]:
-    """What an edge leads to: nodes, one node, or values; None where its predicate isn't declared and it isn't followed backwards."""
+    """What an edge leads to: nodes, one node, or values; None where its predicate isn't declared."""
     definition = view.schema.get(edge.predicate)
-    if edge.back:
-        return NODES
     if definition is None:
         return None
     if definition.kind != "uid":
         return VALUES
-    return NODES if definition.is_list else ONE
+    return NODES if edge.back or definition.is_list else ONE
 
 
 def along(view: View, edge: Edge, node: int) -> list[int]:
@@ -118,7 +116,7 @@ def under_edge(view: View, item: Followed, node: int) -> Union[str, Tree, list[T
     sort = sort_of(view, item.edge)
     if sort is None:
         return None
-    if sort == VALUES:
+    if sort == VALUES and not item.edge.back:
         return view.shown(item.edge.predicate, node)
     nodes = listed(view, item.arguments or [], item.directives, along(view, item.edge, node))
     trees: list[Tree] = [whole(view, item.fields or [], child) for child in nodes]
