@@ -8,3 +8,7 @@ mod Beside
 mod Behind
 mod Turns
 mod ShownTurns
+mod FlatLaws
+mod FlattenTurns
+mod TallyLaws
+mod LongTexts

@@ -6,3 +6,5 @@ pub mod Moves
 pub mod Cascade
 pub mod Strip
 pub mod Whole
+pub mod Normalize
+pub mod Tallies

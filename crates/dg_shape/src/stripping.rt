@@ -41,8 +41,8 @@ fn show(alloc: Global, fields: &[QField], tree: Tree) -> Mem<Tree>
     }
 }
 
-// Whether these are nodes.
-fn are_nodes(items: &[Tree]) -> bool
+/// Whether these are nodes.
+pub fn are_nodes(items: &[Tree]) -> bool
     ensures { result ≡ list_all is_node items.now }
 {
     items.iter().all(|item| matches!(item, Tree::Node(_)))
