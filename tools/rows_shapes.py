@@ -11,12 +11,13 @@ import sys
 from collections.abc import Iterator
 from typing import Optional, Union
 
-from plain_levels import Tree, counts_in, key_of, remaining, shown
+from plain_levels import Tree, counts_in, flat, key_of, remaining, shown
 from plain_queries import Count, CountUid, Field, Followed, Uid, read_query
 from plain_values import read_posting
 
 SEED = 30
 KINDS = {"text": "string", "int": "int", "bool": "bool", "time": "dateTime"}
+LONGEST = 16_777_216
 
 # ---------------------------------------------------------------------------------------------------
 # Lists of nodes
@@ -201,10 +202,16 @@ def answer_text(objects: list[str]) -> str:
     return f'{{"data":{{"q":[{",".join(objects)}]}}}}'
 
 
+def pairs_text(pairs: dict[str, str]) -> str:
+    return f"{{{','.join(f'{chr(34)}{key}{chr(34)}:{text}' for key, text in pairs.items())}}}"
+
+
 def shape_of(table: str, fields: list[Field], trees: list[Tree]) -> str:
     if table == "cascade":
         return answer_text([whole_text(tree) for tree in remaining(fields, trees)])
-    return answer_text([f"{{{','.join(shown(fields, tree))}}}" for tree in trees])
+    if table == "strip":
+        return answer_text([f"{{{','.join(shown(fields, tree))}}}" for tree in trees])
+    return answer_text([pairs_text(pairs) for tree in trees for pairs in flat(fields, tree)])
 
 
 def random_shapes() -> Iterator[tuple[str, str]]:
@@ -213,8 +220,15 @@ def random_shapes() -> Iterator[tuple[str, str]]:
         fields = read_query(text)[0].fields
         trees = [random_tree(fields) for _ in range(random.randrange(4))]
         steps = [step for tree in trees for step in steps_of(tree)] or ["nothing"]
-        for table in ("cascade", "strip"):
+        for table in ("cascade", "strip", "normalize"):
             yield "\t".join([table, text, *steps]), shape_of(table, fields, trees)
+
+
+def product(count: int) -> str:
+    """How many bytes the flat objects of a node with so many nodes under each of three edges have, as an answer."""
+    one = len('{"a":1,"b":1,"c":1}')
+    size = len(answer_text([])) + count**3 * (one + 1) - (count > 0)
+    return "the answer is too large" if size - len('{"data":{"q":}}') > LONGEST else f"{size} bytes"
 
 
 def rows() -> Iterator[tuple[str, Optional[str]]]:
@@ -227,10 +241,12 @@ def rows() -> Iterator[tuple[str, Optional[str]]]:
     yield from [("many\t10", "6 7"), ("many\t1000000", "6 999999"), ("many\tx", None)]
     yield "# Pages.", ""
     yield from ((row, paged(row.split("\t")[1:])) for row in HAND_PAGES)
-    yield "# Whole trees at random: what a cascade leaves, and what is shown. Wanted: tools/plain_levels.py.", ""
+    yield "# Whole trees at random: what a cascade leaves, what is shown, flat objects. Wanted: tools/plain_levels.py.", ""
     yield from random_shapes()
+    yield "# Products of three lists, of which the larger ones pass the limit of an answer.", ""
+    yield from ((f"product\t{count}", product(count)) for count in (0, 1, 2, 50, 93, 94, 95, 400, 1000))
     yield "# Rows that can't be read.", ""
-    yield from ((row, None) for row in ("cascade\t{ q(", "strip\t{ q(func: uid(0x1)) { uid } }\tnode 1", "else\t1"))
+    yield from ((row, None) for row in ("cascade\t{ q(", "strip\t{ q(func: uid(0x1)) { uid } }\tnode 1", "normalize\t{ }\tfield a", "else\t1"))
 
 
 def main() -> int:

@@ -43,6 +43,8 @@ fn answer(alloc: Global, table: &str, fields: &str) -> Mem<Option<String>> {
         "page" => orders::paged(alloc, fields),
         "cascade" => shapes::cascaded(alloc, fields),
         "strip" => shapes::stripped(alloc, fields),
+        "normalize" => shapes::normalized(alloc, fields),
+        "product" => shapes::product(alloc, fields),
         _ => Ok(None),
     }
 }

@@ -3,7 +3,7 @@ ghost use Rattle.std.specs.Prelude.{◌≤◌, length};
 
 use crate::trees::trees_of;
 use dg_parse::{DqlFault, QField, Query, parse};
-use dg_shape::{cascade, strip};
+use dg_shape::{cascade, normalize, strip};
 use dg_tree::{Field, Tree, TreeFault, answer_text};
 use dg_values::{List, Mem, OutOfMemory, Str};
 use std::alloc::Global;
@@ -93,4 +93,66 @@ pub(crate) fn stripped(alloc: Global, fields: &str) -> Mem<Option<String>> {
     };
     let made = shown(alloc, trees, fields_of(&query))?;
     Ok(Some(text_of(alloc, made)?))
+}
+
+// The text of flat objects, or of what is wrong.
+fn flat_text(alloc: Global, trees: Vec<Tree>, fields: &[QField]) -> Mem<String> {
+    match normalize(alloc, trees, fields) {
+        Ok(made) => text_of(alloc, made),
+        Err(fault) => fault_text(alloc, fault),
+    }
+}
+
+/// `QUERY, STEPS`: the flat objects of the trees that the steps make.
+pub(crate) fn normalized(alloc: Global, fields: &str) -> Mem<Option<String>> {
+    let Some((query, trees)) = parts_of(alloc, fields)? else {
+        return Ok(None);
+    };
+    Ok(Some(flat_text(alloc, trees, fields_of(&query))?))
+}
+
+// A node with a name.
+fn named(alloc: Global) -> Mem<Tree> {
+    let mut fields = List::new(alloc);
+    let key = Str::from_str(alloc, "a")?;
+    let tree = Tree::Int(1);
+    fields.push(Field { key, tree })?;
+    Ok(Tree::Node(fields))
+}
+
+// So many nodes with a name.
+fn nodes(alloc: Global, count: u32) -> Mem<Tree> {
+    let mut trees = List::new(alloc);
+    for _ in 0..count {
+        trees.push(named(alloc)?)?;
+    }
+    Ok(Tree::Array(trees))
+}
+
+// A node with so many nodes under each of three edges.
+fn crossed(alloc: Global, count: u32) -> Mem<Tree> {
+    let mut fields = List::new(alloc);
+    for key in ["x", "y", "z"] {
+        let key = Str::from_str(alloc, key)?;
+        let tree = nodes(alloc, count)?;
+        fields.push(Field { key, tree })?;
+    }
+    Ok(Tree::Node(fields))
+}
+
+/// `COUNT`: how many bytes the flat objects have of a node with so many nodes under each of three edges.
+pub(crate) fn product(alloc: Global, fields: &str) -> Mem<Option<String>> {
+    let Ok(count) = fields.parse::<u32>() else {
+        return Ok(None);
+    };
+    let text = "{ q(func: uid(0x1)) { x { a: n } y { b: n } z { c: n } } }";
+    let Some(query) = query_of(alloc, text)? else {
+        return Ok(None);
+    };
+    let mut trees = Vec::new(alloc);
+    trees.push(crossed(alloc, count.min(1000))?)?;
+    match normalize(alloc, trees, fields_of(&query)) {
+        Ok(made) => Ok(Some(format!(in alloc; "{} bytes", text_of(alloc, made)?.len())?)),
+        Err(fault) => Ok(Some(fault_text(alloc, fault)?)),
+    }
 }
