@@ -5,7 +5,7 @@ ghost use Rattle.dg_tree.specs.Texts.{key_text};
 ghost use Rattle.dg_level.specs.Keys.{asks_count, all_count_keys};
 
 use dg_parse::{AggOp, QEdge, QField, QItem};
-use dg_tree::push_key;
+use dg_tree::{TreeFault, push_key};
 use dg_values::{List, Mem, OutOfMemory, Str};
 use std::alloc::Global;
 
@@ -79,14 +79,14 @@ fn key_of(alloc: Global, field: &QField) -> Mem<Str>
     }
 }
 
-// The text of a key.
+// The text of a key. One of more bytes than a number counts can't be had: that is want of memory.
 fn text_of(alloc: Global, key: &str) -> Mem<Str>
     ensures { IfOk result (λ text. text ≡ key_text key.now) }
 {
     let mut text = Str::from_str(alloc, "")?;
     match push_key(alloc, &mut text, usize::MAX, key) {
         Ok(()) => Ok(text),
-        Err(_) => Err(OutOfMemory),
+        Err(TreeFault::TooLarge | TreeFault::OutOfMemory) => Err(OutOfMemory),
     }
 }
 
