@@ -13,7 +13,7 @@ from unittest import mock
 
 import plain_machine as plain
 import random_scripts as scripts
-from plain_answers import tested_in
+from plain_answers import places_of
 from plain_queries import FUNCTIONS, read_query
 from tests.helpers import SECONDS, TOOLS, InFolder
 
@@ -109,7 +109,8 @@ class Reach(unittest.TestCase):
                 for block in read_query(request.body.decode()):
                     assert block.function is not None
                     asked[f"root {block.function.word}"] += 1
-                    asked.update(f"tested {function.word}" for function in tested_in(block))
+                    tested = [place.function for place in places_of(block) if place.function is not None and not place.root]
+                    asked.update(f"tested {function.word}" for function in tested)
         wanted = {f"{place} {word}" for place in ("root", "tested") for word in FUNCTIONS} - {"root uid_in"}
         self.assertEqual(set(asked), wanted)
         self.assertGreater(shown, 100)

@@ -86,7 +86,8 @@ fn text_of(alloc: Global, key: &str) -> Mem<Str>
     let mut text = Str::from_str(alloc, "")?;
     match push_key(alloc, &mut text, usize::MAX, key) {
         Ok(()) => Ok(text),
-        Err(TreeFault::TooLarge | TreeFault::OutOfMemory) => Err(OutOfMemory),
+        Err(TreeFault::OutOfMemory) => Err(OutOfMemory),
+        Err(TreeFault::TooLarge) => Err(OutOfMemory),
     }
 }
 
