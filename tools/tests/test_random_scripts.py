@@ -18,7 +18,7 @@ from plain_queries import FUNCTIONS, read_query
 from tests.helpers import SECONDS, TOOLS, InFolder
 
 BUILT = {f"ok {verb}" for verb in ("alter", "begin", "mutate", "query", "commit", "discard")}
-REFUSED = {f"error {number}" for number in (1, 2, 3, 4, 5, 9, 10, 13, 14, 15, 19, 20, 22, 27, 98)}
+REFUSED = {f"error {number}" for number in (1, 2, 3, 4, 5, 9, 10, 11, 13, 14, 15, 19, 20, 22, 27, 98)}
 COMPARE = [sys.executable, "-B", TOOLS / "random_scripts.py", "compare"]
 
 # A program that writes what it was told, says it, and ends so, however long that takes.
