@@ -99,10 +99,7 @@ fn column_of(alloc: Global, field: &str) -> Mem<Option<Column>> {
     Ok(variable_of(alloc, said)?.map(|values| Column { down, values }))
 }
 
-fn columns_of<'a>(
-    alloc: Global,
-    fields: impl Iterator<Item = &'a str>,
-) -> Mem<Option<Vec<Column>>> {
+fn columns_of(alloc: Global, fields: &[&str]) -> Mem<Option<Vec<Column>>> {
     let mut columns = Vec::new(alloc);
     for field in fields {
         match column_of(alloc, field)? {
@@ -127,11 +124,14 @@ fn keys_of(alloc: Global, columns: &[Column]) -> Mem<Vec<Key<'_>>> {
 
 /// `NODES, KEY, ..`: the nodes in the order of the keys, of which each is `up` or `down` and the nodes' values.
 pub(crate) fn ordered(alloc: Global, fields: &str) -> Mem<Option<String>> {
-    let mut parts = fields.split('\t');
-    let Some(nodes) = nodes_in(alloc, parts.next().unwrap_or(""))? else {
+    let parts: Vec<&str> = fields.split('\t').collect(alloc)?;
+    let Some((nodes, rest)) = parts.as_slice().split_first() else {
         return Ok(None);
     };
-    let Some(columns) = columns_of(alloc, parts)? else {
+    let Some(nodes) = nodes_in(alloc, nodes)? else {
+        return Ok(None);
+    };
+    let Some(columns) = columns_of(alloc, rest)? else {
         return Ok(None);
     };
     let keys = keys_of(alloc, columns.as_slice())?;
