@@ -16,6 +16,7 @@ from plain_graph import Definition, Graph
 from plain_levels import shown, whole
 from plain_queries import read_query
 from plain_values import NODE, Posting, read_posting
+from rows_printed import print_rows
 
 SEED = 31
 SCHEMA = {
@@ -202,13 +203,7 @@ def rows() -> Iterator[tuple[str, Optional[str]]]:
 
 def main() -> int:
     random.seed(SEED)
-    answers = sys.argv[1:] == ["stdout"]
-    for row, answer in rows():
-        if not answers:
-            print(row)
-        elif not row.startswith("#"):
-            print(f"{row} => {answer}" if answer is not None else f"? {row}")
-    return 0
+    return print_rows(rows())
 
 
 if __name__ == "__main__":

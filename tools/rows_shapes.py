@@ -14,6 +14,7 @@ from typing import Optional, Union
 from plain_levels import Tree, counts_in, flat, key_of, remaining, shown
 from plain_queries import Count, CountUid, Field, Followed, Uid, read_query
 from plain_values import read_posting
+from rows_printed import print_rows
 
 SEED = 30
 KINDS = {"text": "string", "int": "int", "bool": "bool", "time": "dateTime"}
@@ -250,13 +251,7 @@ def rows() -> Iterator[tuple[str, Optional[str]]]:
 
 def main() -> int:
     random.seed(SEED)
-    answers = sys.argv[1:] == ["stdout"]
-    for row, answer in rows():
-        if not answers:
-            print(row)
-        elif not row.startswith("#"):
-            print(f"{row} => {answer}" if answer is not None else f"? {row}")
-    return 0
+    return print_rows(rows())
 
 
 if __name__ == "__main__":
