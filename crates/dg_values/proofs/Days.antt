@@ -1,6 +1,6 @@
 -- Which days the years 0000 to 9999 have, and that each has a date.
 use Rattle.std.proofs.Common.{◌≡◌, ℕ, zero, suc, ◌+◌, ◌<◌, ◌≤◌, Bool, true, false, refl, sym, ap, ◌∙◌, subst, arith, ℤ, pos, neg_ℤ, ◌+ℤ◌, ◌-ℤ◌, ◌<ℤ◌, ◌≤ℤ◌}
-use Rattle.std.specs.Prelude.{not, int_lt, if◌then◌else◌}
+use Rattle.std.specs.Prelude.{not, int_lt, unsigned_abs, if◌then◌else◌}
 use Rattle.std.specs.Prelude.{◌⊎◌}
 use Rattle.std.proofs.Common.{inl, inr}
 use Rattle.std.proofs.Math.Nat.{eq-or-lt_of_le}
@@ -8,8 +8,20 @@ use Rattle.std.proofs.lemmas.Int.{ints}
 use Rattle.jiff_core.specs.Calendar.{days_from_civil, days_in_month, IsCivilDate}
 use Rattle.jiff_core.proofs.SignedLemmas.{signed_arith, one_part}
 use Rattle.jiff_core.proofs.CalendarLemmas.{days_from_civil-day_count, day_count-day, day_count-end, day_count-next_year, day_count-next_month, day_count-last_of_year, days_in_month_bounds, day_count-day_of_year, days_of_months-zero}
-use Rattle.dg_values.specs.Calendar.{latest, year_of, month_of, day_of}
+use borrow.Author.Differences.{up}
+use Rattle.dg_values.specs.Instant.{Instant, first_second}
+use Rattle.dg_values.specs.Calendar.{latest, year_of, month_of, day_of, seconds_of}
 use Rattle.dg_values.proofs.DateParts.{before, number-zero}
+
+-- ---- the seconds of moments
+
+seconds_case : (m : Instant) (before : Bool) → int_lt m.secs first_second ≡ before → (if before then 0 else unsigned_abs (m.secs +ℤ pos 62_167_219_200)) ≡ up (m.secs +ℤ pos 62_167_219_200)
+seconds_case m true e = omega (arith, signed_arith, one_part (m.secs +ℤ pos 62_167_219_200), e)
+seconds_case m false e = omega (arith, signed_arith, one_part (m.secs +ℤ pos 62_167_219_200), e)
+
+-- from the year 0000 on, as far as they are not negative
+pub seconds_up : (m : Instant) → seconds_of m ≡ up (m.secs +ℤ pos 62_167_219_200)
+seconds_up m = seconds_case m (int_lt m.secs first_second) refl
 
 -- ---- the latest that passes a test
 

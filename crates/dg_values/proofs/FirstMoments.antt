@@ -15,7 +15,7 @@ use Rattle.dg_values.specs.Instant.{Instant, IsInstant}
 use Rattle.dg_values.specs.Order.{moment_cmp}
 use Rattle.dg_values.specs.Calendar.{year_of, month_of, seconds_of, day_number, midnight, truncated, IsFirstMoment}
 use Rattle.dg_values.proofs.DateParts.{the_year, the_month}
-use Rattle.dg_values.proofs.Days.{year_began, year_small, month_began, first_of_month, first_of_year}
+use Rattle.dg_values.proofs.Days.{seconds_up, year_began, year_small, month_began, first_of_month, first_of_year}
 use Rattle.dg_values.proofs.PrintedForms.{day_of_instant}
 use Rattle.dg_values.proofs.TimeForms.{midnight_in}
 
@@ -40,25 +40,25 @@ not_after secs b h = then_above (int_cmp secs b.secs) (nat_cmp 0 b.nanos) (not_a
 
 hour_first : (m : Instant) → IsInstant m → IsFirstMoment parts.Hour m (truncated parts.Hour m)
 hour_first m h = record {
-  moment = (omega (arith, signed_arith, whole, h.0), omega (arith, signed_arith, whole, h.1), omega arith);
+  moment = (omega (arith, signed_arith, whole, seconds_up m, h.0), omega (arith, signed_arith, whole, seconds_up m, h.1), omega arith);
   within = within;
-  earliest = λ other i same. not_after (truncated parts.Hour m).secs other (omega (arith, signed_arith, whole, one_part (other.secs +ℤ pos 62_167_219_200), i.0, same));
+  earliest = λ other i same. not_after (truncated parts.Hour m).secs other (omega (arith, signed_arith, whole, seconds_up m, one_part (other.secs +ℤ pos 62_167_219_200), seconds_up other, i.0, same));
 }
   where
     whole : (up (m.secs +ℤ pos 62_167_219_200) ≡ 0) ⊎ (down (m.secs +ℤ pos 62_167_219_200) ≡ 0)
     whole = one_part (m.secs +ℤ pos 62_167_219_200)
 
     within : seconds_of (truncated parts.Hour m) / 3600 ≡ seconds_of m / 3600
-    within = omega (arith, signed_arith, whole, one_part ((truncated parts.Hour m).secs +ℤ pos 62_167_219_200), h.0)
+    within = omega (arith, signed_arith, whole, seconds_up m, one_part ((truncated parts.Hour m).secs +ℤ pos 62_167_219_200), seconds_up (truncated parts.Hour m), h.0)
 
 -- ---- days, months and years
 
 -- the day that begins at a midnight
 midnight_day : (n : ℤ) → neg_ℤ (pos 719_528) ≤ℤ n → day_number (midnight n) ≡ n
-midnight_day n low = omega (arith, signed_arith, one_part ((midnight n).secs +ℤ pos 62_167_219_200))
+midnight_day n low = omega (arith, signed_arith, one_part ((midnight n).secs +ℤ pos 62_167_219_200), seconds_up (midnight n))
 
 begun : (n : ℤ) (other : Instant) → IsInstant other → n ≤ℤ day_number other → (n *ℤ pos 86400) ≤ℤ other.secs
-begun n other i h = omega (arith, signed_arith, one_part (other.secs +ℤ pos 62_167_219_200), i.0)
+begun n other i h = omega (arith, signed_arith, one_part (other.secs +ℤ pos 62_167_219_200), seconds_up other, i.0)
 
 day_first : (m : Instant) → IsInstant m → IsFirstMoment parts.Day m (truncated parts.Day m)
 day_first m h =

@@ -31,7 +31,7 @@ use Rattle.dg_values.specs.Forms.FractionForm.{whole, digits}
 use Rattle.dg_values.specs.Forms.ZoneForm.{upper_z}
 use Rattle.dg_values.specs.Printing.{time_text, value_text}
 use Rattle.dg_values.specs.Reading.{Reads, IsOfKind, IsValue}
-use Rattle.dg_values.proofs.Days.{IsDay, date_of_day, day_of_date}
+use Rattle.dg_values.proofs.Days.{seconds_up, IsDay, date_of_day, day_of_date}
 use Rattle.dg_values.proofs.TimeForms.{as_time}
 
 -- ---- numbers
@@ -107,7 +107,7 @@ fraction_prints (suc j) high =
 pub day_of_instant : (m : Instant) → IsInstant m → IsDay (day_number m)
 day_of_instant m h = record {
   low = omega (arith, signed_arith);
-  high = omega (arith, signed_arith, one_part (m.secs +ℤ pos 62_167_219_200), h.0, h.1);
+  high = omega (arith, signed_arith, one_part (m.secs +ℤ pos 62_167_219_200), seconds_up m, h.0, h.1);
 }
 
 time_prints : (m : Instant) → IsInstant m → TimeForm (time_text m) m
@@ -116,7 +116,7 @@ time_prints m h =
     let day = day_of_instant m h in
     let s : ℕ = clock_of m in
     let shown : 3600 * (s / 3600) + 60 * (s / 60 % 60) + s % 60 ≡ s = omega arith in
-    let secs : n *ℤ pos 86400 +ℤ pos s -ℤ pos 0 ≡ m.secs = omega (arith, signed_arith, one_part (m.secs +ℤ pos 62_167_219_200), h.0) in
+    let secs : n *ℤ pos 86400 +ℤ pos s -ℤ pos 0 ≡ m.secs = omega (arith, signed_arith, one_part (m.secs +ℤ pos 62_167_219_200), seconds_up m, h.0) in
     let same : moment_on (days_from_civil (pos (year_of n)) (month_of n) (day_of n)) (3600 * (s / 3600) + 60 * (s / 60 % 60) + s % 60) (pos 0) m.nanos ≡ m =
     ap (λ (x : ℤ). moment_on x (3600 * (s / 3600) + 60 * (s / 60 % 60) + s % 60) (pos 0) m.nanos) (day_of_date n day)
     ∙ ap (λ (x : ℕ). moment_on n x (pos 0) m.nanos) shown ∙ ap made secs in
