@@ -11,11 +11,10 @@ use Rattle.jiff_core.proofs.SignedLemmas.{signed_arith, one_part}
 use Rattle.jiff_core.proofs.CalendarLemmas.{days_from_civil-day_count, day_count-lt_year, day_count-lt_month}
 use Rattle.dg_values.specs.declared.kind.DatePart.{DatePart}
 use Rattle.dg_values.specs.declared.kind.DatePart.TheVariants as parts
-use Rattle.dg_values.specs.Instant.{Instant, first_second, last_second}
+use Rattle.dg_values.specs.Instant.{Instant, last_second}
 use Rattle.dg_values.specs.Order.{moment_cmp}
 use Rattle.dg_values.specs.Calendar.{latest, year_of, month_of, day_number, truncated}
-use Rattle.dg_values.proofs.Days.{latest-le, IsDay, first_of_month, first_of_year}
-use Rattle.dg_values.proofs.PrintedForms.{day_of_instant}
+use Rattle.dg_values.proofs.Days.{latest-le, seconds_up, IsDay, first_of_month, first_of_year}
 
 -- ---- the latest that passes
 
@@ -80,31 +79,31 @@ month_start a b day h = by (eq-or-lt_of_le (year_later a b h))
 
 -- ---- moments
 
--- seconds of the years 0000 to 9999
-abbrev pub InYears : ℤ → Type 0
-InYears secs = (first_second ≤ℤ secs) × (secs ≤ℤ last_second)
+day_later : (a b : Instant) → a.secs ≤ℤ b.secs → day_number a ≤ℤ day_number b
+day_later a b h =
+    omega (arith, signed_arith, one_part (a.secs +ℤ pos 62_167_219_200), one_part (b.secs +ℤ pos 62_167_219_200), seconds_up a, seconds_up b, h)
 
-day_later : (a b : Instant) → InYears a.secs → a.secs ≤ℤ b.secs → day_number a ≤ℤ day_number b
-day_later a b i h =
-    omega (arith, signed_arith, one_part (a.secs +ℤ pos 62_167_219_200), one_part (b.secs +ℤ pos 62_167_219_200), i.0, h)
-
-day_there : (a : Instant) → InYears a.secs → IsDay (day_number a)
-day_there a i = day_of_instant (record { secs = a.secs; nanos = 0 }) (i.0, i.1, omega arith)
+-- a day of the years 0000 to 9999, of a moment that isn't later
+day_there : (a : Instant) → a.secs ≤ℤ last_second → IsDay (day_number a)
+day_there a i = record {
+  low = omega (arith, signed_arith);
+  high = omega (arith, signed_arith, one_part (a.secs +ℤ pos 62_167_219_200), seconds_up a, i);
+}
 
 days_seconds : (a b : ℤ) → a ≤ℤ b → (a *ℤ pos 86400) ≤ℤ (b *ℤ pos 86400)
 days_seconds a b h = omega (arith, signed_arith, h)
 
 -- the seconds of a part's first moment
-pub cut_later : (part : DatePart) (a b : Instant) → InYears a.secs → a.secs ≤ℤ b.secs → (truncated part a).secs ≤ℤ (truncated part b).secs
+pub cut_later : (part : DatePart) (a b : Instant) → a.secs ≤ℤ last_second → a.secs ≤ℤ b.secs → (truncated part a).secs ≤ℤ (truncated part b).secs
 cut_later parts.Hour a b i h =
-    omega (arith, signed_arith, one_part (a.secs +ℤ pos 62_167_219_200), one_part (b.secs +ℤ pos 62_167_219_200), i.0, h)
-cut_later parts.Day a b i h = days_seconds (day_number a) (day_number b) (day_later a b i h)
+    omega (arith, signed_arith, one_part (a.secs +ℤ pos 62_167_219_200), one_part (b.secs +ℤ pos 62_167_219_200), seconds_up a, seconds_up b, h)
+cut_later parts.Day a b i h = days_seconds (day_number a) (day_number b) (day_later a b h)
 cut_later parts.Month a b i h =
     days_seconds (days_from_civil (pos (year_of (day_number a))) (month_of (day_number a)) 1) (days_from_civil (pos (year_of (day_number b))) (month_of (day_number b)) 1)
-    (month_start (day_number a) (day_number b) (day_there a i) (day_later a b i h))
+    (month_start (day_number a) (day_number b) (day_there a i) (day_later a b h))
 cut_later parts.Year a b i h =
     days_seconds (days_from_civil (pos (year_of (day_number a))) 1 1) (days_from_civil (pos (year_of (day_number b))) 1 1)
-    (year_start (day_number a) (day_number b) (day_there a i) (day_later a b i h))
+    (year_start (day_number a) (day_number b) (day_there a i) (day_later a b h))
 
 in_order : (a b : ℤ) → a ≤ℤ b → is_le (ordering_then (int_cmp a b) (nat_cmp 0 0)) ≡ true
 in_order a b h = by (int_cmp a b) refl
@@ -115,7 +114,7 @@ in_order a b h = by (int_cmp a b) refl
     by Greater e = absurd (grind (arith, ints))
 
 -- and so the moments
-pub cut_in_order : (part : DatePart) (a b : Instant) → InYears a.secs → a.secs ≤ℤ b.secs → is_le (moment_cmp (truncated part a) (truncated part b)) ≡ true
+pub cut_in_order : (part : DatePart) (a b : Instant) → a.secs ≤ℤ last_second → a.secs ≤ℤ b.secs → is_le (moment_cmp (truncated part a) (truncated part b)) ≡ true
 cut_in_order parts.Hour a b i h = in_order (truncated parts.Hour a).secs (truncated parts.Hour b).secs (cut_later parts.Hour a b i h)
 cut_in_order parts.Day a b i h = in_order (truncated parts.Day a).secs (truncated parts.Day b).secs (cut_later parts.Day a b i h)
 cut_in_order parts.Month a b i h = in_order (truncated parts.Month a).secs (truncated parts.Month b).secs (cut_later parts.Month a b i h)

@@ -8,6 +8,7 @@ use Rattle.std.specs.declared.cmp.Ordering.TheVariants.{Less, Equal, Greater}
 use Rattle.std.specs.Ordering.{is_le, is_ge, ordering_reverse}
 use Rattle.dg_values.specs.Order.{value_cmp}
 use Rattle.dg_values.specs.declared.kind.Kind.{Kind}
+use Rattle.dg_values.specs.declared.kind.Kind.TheVariants as kinds
 use Rattle.dg_values.specs.declared.kind.DatePart.{DatePart}
 use Rattle.dg_values.specs.declared.kind.DatePart.TheVariants as parts
 use Rattle.dg_values.specs.declared.kind.Tokenizer.{Tokenizer}
@@ -15,7 +16,7 @@ use Rattle.dg_values.specs.declared.kind.Tokenizer.TheVariants as tokenizers
 use Rattle.dg_values.specs.declared.value.Value.{Value}
 use Rattle.dg_values.specs.declared.value.Value.TheVariants.{Int, Text, Bool as Truth, Time}
 use Rattle.dg_values.specs.declared.value.Posting.TheVariants.{Val}
-use Rattle.dg_values.specs.Instant.{Instant, IsInstant}
+use Rattle.dg_values.specs.Instant.{Instant, IsInstant, last_second}
 use Rattle.dg_values.specs.Calendar.{truncated}
 use Rattle.dg_values.proofs.OrderLaws.{value_order}
 use Rattle.dg_schema.specs.declared.definition.PredDef.{PredDef}
@@ -30,11 +31,11 @@ use Rattle.dg_check.specs.declared.vars.Variable.{Variable}
 use Rattle.dg_funcs.specs.Truth.{stands, stands_to_any, is_between, holds_at}
 use Rattle.dg_funcs.specs.Roots.{root_nodes}
 use Rattle.dg_funcs.specs.Filed.{filed_as, IsInYears}
-use Rattle.dg_funcs.specs.Kinds.{declared_kind, keeps}
+use Rattle.dg_funcs.specs.Kinds.{is_of_known_kind, declared_kind, keeps}
 use Rattle.dg_funcs.proofs.PassLaws.{or_false}
 use Rattle.dg_funcs.proofs.KindLaws.{own_token}
 use Rattle.dg_funcs.proofs.NarrowLaws.{same_of_listed, same_of_fitting}
-use Rattle.dg_funcs.proofs.CutLaws.{InYears, cut_in_order, secs_in_order}
+use Rattle.dg_funcs.proofs.CutLaws.{cut_in_order, secs_in_order}
 
 -- what is filed has one token
 pub one_of : (tokenizer : Tokenizer) (v w : Value) → filed_as tokenizer v ≡ Some w → tokens_of tokenizer v ≡ one_token tokenizer w
@@ -136,9 +137,9 @@ int_between (Text a) b v x y e f h = absurd (cc)
 int_between (Truth a) b v x y e f h = absurd (cc)
 int_between (Time a) b v x y e f h = absurd (cc)
 
--- between two moments of these years
-in_years : (a b v : Instant) → IsInstant a → IsInstant b → a.secs ≤ℤ v.secs → v.secs ≤ℤ b.secs → InYears v.secs
-in_years a b v i j low high = (omega (arith, signed_arith, i.0, low), omega (arith, signed_arith, j.1, high))
+-- before a moment of the years 0000 to 9999
+not_later : (a b : Instant) → IsInstant b → a.secs ≤ℤ b.secs → a.secs ≤ℤ last_second
+not_later a b i h = omega (arith, signed_arith, i.1, h)
 
 module _ (tokenizer : Tokenizer) (part : DatePart)
     (time : (m : Instant) → filed_as tokenizer (Time m) ≡ Some (Time (truncated part m)))
@@ -152,7 +153,7 @@ module _ (tokenizer : Tokenizer) (part : DatePart)
   date_above : (a v x : Value) → filed_as tokenizer a ≡ Some x → IsInYears a → is_le (value_cmp a v) ≡ true → has_token_between tokenizer (Some x) None (Val v) ≡ true
   date_above (Time a) (Time v) x e i h =
       listed tokenizer (Time v) (Time (truncated part v)) (Some x) None (time v)
-      (subst (λ (w : Value). is_le (value_cmp w (Time (truncated part v))) ≡ true) (moment_as a x e) (cut_in_order part a v (i.0, i.1) (secs_in_order a v h)))
+      (subst (λ (w : Value). is_le (value_cmp w (Time (truncated part v))) ≡ true) (moment_as a x e) (cut_in_order part a v i.1 (secs_in_order a v h)))
       refl
   date_above (Time a) (Int v) x e i h = absurd (cc)
   date_above (Time a) (Text v) x e i h = absurd (cc)
@@ -161,13 +162,24 @@ module _ (tokenizer : Tokenizer) (part : DatePart)
   date_above (Text a) v x e i h = let no = sym (text a) ∙ e in absurd (cc)
   date_above (Truth a) v x e i h = let no = sym (truth a) ∙ e in absurd (cc)
 
+  -- moments up to another
+  date_below : (b : Instant) (v x : Value) → filed_as tokenizer (Time b) ≡ Some x → IsInstant b → is_of_known_kind (Some kinds.Time) v ≡ true → is_le (value_cmp v (Time b)) ≡ true → has_token_between tokenizer None (Some x) (Val v) ≡ true
+  date_below b (Time v) x e i k h =
+      let last = secs_in_order v b h in
+      listed tokenizer (Time v) (Time (truncated part v)) None (Some x) (time v)
+      refl
+      (subst (λ (w : Value). is_le (value_cmp (Time (truncated part v)) w) ≡ true) (moment_as b x e) (cut_in_order part v b (not_later v b i last) last))
+  date_below b (Int v) x e i k h = absurd (cc)
+  date_below b (Text v) x e i k h = absurd (cc)
+  date_below b (Truth v) x e i k h = absurd (cc)
+
   date_between : (a b v x y : Value) → filed_as tokenizer a ≡ Some x → filed_as tokenizer b ≡ Some y → IsInYears a → IsInYears b → is_between (a ∷ b ∷ []) v ≡ true → has_token_between tokenizer (Some x) (Some y) (Val v) ≡ true
   date_between (Time a) (Time b) (Time v) x y e f i j h =
       let first = secs_in_order a v (low_end (Time a) (Time b) (Time v) h) in
       let last = secs_in_order v b (high_end (Time a) (Time b) (Time v) h) in
       listed tokenizer (Time v) (Time (truncated part v)) (Some x) (Some y) (time v)
-      (subst (λ (w : Value). is_le (value_cmp w (Time (truncated part v))) ≡ true) (moment_as a x e) (cut_in_order part a v (i.0, i.1) first))
-      (subst (λ (w : Value). is_le (value_cmp (Time (truncated part v)) w) ≡ true) (moment_as b y f) (cut_in_order part v b (in_years a b v i j first last) last))
+      (subst (λ (w : Value). is_le (value_cmp w (Time (truncated part v))) ≡ true) (moment_as a x e) (cut_in_order part a v i.1 first))
+      (subst (λ (w : Value). is_le (value_cmp (Time (truncated part v)) w) ≡ true) (moment_as b y f) (cut_in_order part v b (not_later v b j last) last))
   date_between (Time a) (Time b) (Int v) x y e f i j h = absurd (cc)
   date_between (Time a) (Time b) (Text v) x y e f i j h = absurd (cc)
   date_between (Time a) (Time b) (Truth v) x y e f i j h = absurd (cc)
@@ -202,6 +214,18 @@ above_lists tokenizers.Term m v x e i h = absurd (cc)
 above_lists tokenizers.Trigram m v x e i h = absurd (cc)
 above_lists tokenizers.Bool m v x e i h = absurd (cc)
 
+below_lists : (tokenizer : Tokenizer) (m : Instant) (v x : Value) → filed_as tokenizer (Time m) ≡ Some x → IsInstant m → is_of_known_kind (Some kinds.Time) v ≡ true → is_le (value_cmp v (Time m)) ≡ true → has_token_between tokenizer None (Some x) (Val v) ≡ true
+below_lists tokenizers.Hour m v x e i k h = date_below tokenizers.Hour parts.Hour (λ m. refl) (λ n. refl) (λ t. refl) (λ b. refl) m v x e i k h
+below_lists tokenizers.Day m v x e i k h = date_below tokenizers.Day parts.Day (λ m. refl) (λ n. refl) (λ t. refl) (λ b. refl) m v x e i k h
+below_lists tokenizers.Month m v x e i k h = date_below tokenizers.Month parts.Month (λ m. refl) (λ n. refl) (λ t. refl) (λ b. refl) m v x e i k h
+below_lists tokenizers.Year m v x e i k h = date_below tokenizers.Year parts.Year (λ m. refl) (λ n. refl) (λ t. refl) (λ b. refl) m v x e i k h
+below_lists tokenizers.Exact m v x e i k h = absurd (cc)
+below_lists tokenizers.Int m v x e i k h = absurd (cc)
+below_lists tokenizers.Hash m v x e i k h = absurd (cc)
+below_lists tokenizers.Term m v x e i k h = absurd (cc)
+below_lists tokenizers.Trigram m v x e i k h = absurd (cc)
+below_lists tokenizers.Bool m v x e i k h = absurd (cc)
+
 -- ---- roots
 
 module _ (graph : List Triple) (p : List ℕ) (vars : List Variable) (kind : Option Kind) where
@@ -215,6 +239,12 @@ module _ (graph : List Triple) (p : List ℕ) (vars : List Variable) (kind : Opt
   after_root op above tokenizer m x e i =
       same_of_listed graph p (stands_to_any op (Time m ∷ [])) (has_token_between tokenizer (Some x) None)
       (λ v h. above_lists tokenizer m v x e i (from_above v (Time m) (above (value_cmp v (Time m)) (sym (or_false (stands op (value_cmp v (Time m)))) ∙ h))))
+
+  pub before_root : (schema : List PredDef) → IsLawful schema graph → declared_kind schema p ≡ Some kinds.Time → (op : CmpOp) → ((o : Ordering) → stands op o ≡ true → is_le o ≡ true) → (tokenizer : Tokenizer) (m : Instant) (x : Value) → filed_as tokenizer (Time m) ≡ Some x → IsInstant m
+      → filter (λ n. holds_at graph vars n (funcs.Cmp op (part.Pred p) kind (Time m ∷ []))) (by_token_range graph p tokenizer None (Some x)) ≡ root_nodes graph vars (funcs.Cmp op (part.Pred p) kind (Time m ∷ []))
+  before_root schema lawful moments op below tokenizer m x e i =
+      same_of_fitting graph p schema lawful (stands_to_any op (Time m ∷ [])) (has_token_between tokenizer None (Some x))
+      (λ v k h. below_lists tokenizer m v x e i (subst (λ (o : Option Kind). is_of_known_kind o v ≡ true) moments k) (below (value_cmp v (Time m)) (sym (or_false (stands op (value_cmp v (Time m)))) ∙ h)))
 
   -- by an index that lists the values of a lawful graph under themselves
   module _ (schema : List PredDef) (lawful : IsLawful schema graph) (tokenizer : Tokenizer) (own : keeps tokenizer (declared_kind schema p) ≡ true) (op : CmpOp) (a : Value) where

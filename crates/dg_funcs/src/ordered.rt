@@ -1,5 +1,6 @@
 // Indexes that keep the order of values.
-ghost use Rattle.std.specs.Prelude.{◌≡◌, true, Some, IfOk, IfSome};
+ghost use Rattle.std.specs.Prelude.{◌≡◌, true, Some, IsTrue, IfOk, IfSome};
+ghost use Rattle.dg_values.specs.declared.kind.Kind.TheVariants as kinds;
 ghost use Rattle.dg_values.specs.declared.value.Value.TheVariants as values;
 ghost use Rattle.dg_values.specs.Calendar.{truncated};
 ghost use Rattle.dg_values.specs.Instant.{IsInstant};
@@ -29,6 +30,28 @@ pub(crate) fn date_index<S: Snapshot>(snap: &S, p: &str) -> Option<Tokenizer>
         return Some(Tokenizer::Year);
     }
     None
+}
+
+// Whether all values of a predicate are moments.
+fn is_of_moments<S: Snapshot>(snap: &S, p: &str) -> bool
+    ensures { IsTrue result → declared_kind (S.declared snap.now) p.now ≡ Some kinds.Time }
+{
+    match snap.schema().lookup(p) {
+        Some(definition) => matches!(definition.kind, Kind::Time),
+        None => false,
+    }
+}
+
+/// The same where all values of the predicate are moments.
+pub(crate) fn moment_index<S: Snapshot>(snap: &S, p: &str) -> Option<Tokenizer>
+    ensures indexed { IfSome result (λ t. is_indexed_by (S.declared snap.now) p.now t ≡ true) }
+    ensures moments { IfSome result (λ t. declared_kind (S.declared snap.now) p.now ≡ Some kinds.Time) }
+{
+    if is_of_moments(snap, p) {
+        date_index(snap, p)
+    } else {
+        None
+    }
 }
 
 // This tokenizer, where the predicate has an index by it.

@@ -1,19 +1,21 @@
 // Comparisons of a predicate's values by ranges of indexes.
-ghost use Rattle.std.specs.Prelude.{◌≡◌, ◌∷◌, [], true, filter, Option, IfOk, option_copied};
+ghost use Rattle.std.specs.Prelude.{◌≡◌, ◌∷◌, [], true, filter, Option, Some, IfOk, option_copied};
 ghost use Rattle.std.specs.declared.cmp.Ordering.{Ordering};
 ghost use Rattle.std.specs.Ordering.{is_le, is_ge};
 ghost use Rattle.dg_values.specs.declared.kind.Kind.{Kind};
+ghost use Rattle.dg_values.specs.declared.kind.Kind.TheVariants as kinds;
 ghost use Rattle.dg_values.specs.declared.value.Value.TheVariants as values;
 ghost use Rattle.dg_values.specs.Instant.{Instant};
 ghost use Rattle.dg_graph.specs.Graphs.{IsLawful};
 ghost use Rattle.dg_graph.specs.Lookups.{is_indexed_by, by_token_range};
 ghost use Rattle.dg_check.specs.declared.parts.Func.TheVariants as funcs;
 ghost use Rattle.dg_check.specs.declared.parts.Of.TheVariants as part;
+ghost use Rattle.dg_funcs.specs.Kinds.{declared_kind};
 ghost use Rattle.dg_funcs.specs.Truth.{stands, holds_at};
 ghost use Rattle.dg_funcs.specs.Roots.{root_nodes};
 
 use crate::held::held;
-use crate::ordered::{date_index, filed_as, ordered_index, own_index};
+use crate::ordered::{date_index, filed_as, moment_index, ordered_index, own_index};
 use crate::roots::root_by_search;
 use dg_check::{Func, Vars};
 use dg_graph::Snapshot;
@@ -121,8 +123,62 @@ pub(crate) fn root_of_between<S: Snapshot, L: Ledger>(
     }
 }
 
-// Those with a value below another, which is included or not, by an index of the values themselves. Moments are searched:
-// nothing says that those of a graph are of the years 0000 to 9999, and outside these dates don't keep their order.
+// Those with a moment below another, which is included or not, by an index of dates.
+fn below_by_index<S: Snapshot, L: Ledger>(
+    alloc: Global,
+    snap: &S,
+    func: &Func,
+    op: CmpOp,
+    p: &str,
+    tokenizer: Tokenizer,
+    given: &Value,
+    vars: &Vars,
+    reads: &mut Steps<L>,
+) -> Mem<Uids>
+    requires tokenizer { is_indexed_by (S.declared snap.now) p.now tokenizer ≡ true }
+    requires moments { declared_kind (S.declared snap.now) p.now ≡ Some kinds.Time }
+    requires moment { (m : Instant) × (given.now ≡ values.Time m) }
+    requires given { (kind : Option Kind) × (func.now ≡ funcs.Cmp op (part.Pred p.now) kind (given.now ∷ [])) }
+    requires below { (o : Ordering) → stands op o ≡ true → is_le o ≡ true }
+    ensures { IsLawful (S.declared snap.now) (S.graph snap.now) → IfOk result (λ uids. uids ≡ root_nodes (S.graph snap.now) vars.now.variables func.now) }
+{
+    let to = filed_as(alloc, tokenizer, given)?;
+    match &to {
+        Some(to) => held_in_range(alloc, snap, func, p, tokenizer, None, Some(to), vars, reads),
+        None => root_by_search(alloc, snap, func, vars, reads),
+    }
+}
+
+// The same by the finest index of dates that there is, where all values of the predicate are moments: other values come before
+// each moment, and no index of dates has them.
+fn root_until_moment<S: Snapshot, L: Ledger>(
+    alloc: Global,
+    snap: &S,
+    func: &Func,
+    op: CmpOp,
+    p: &str,
+    given: &Value,
+    vars: &Vars,
+    reads: &mut Steps<L>,
+) -> Mem<Uids>
+    requires given { (kind : Option Kind) × (func.now ≡ funcs.Cmp op (part.Pred p.now) kind (given.now ∷ [])) }
+    requires below { (o : Ordering) → stands op o ≡ true → is_le o ≡ true }
+    ensures { IsLawful (S.declared snap.now) (S.graph snap.now) → IfOk result (λ uids. uids ≡ root_nodes (S.graph snap.now) vars.now.variables func.now) }
+{
+    match given {
+        Value::Time(_) => match moment_index(snap, p) {
+            Some(tokenizer) => {
+                below_by_index(alloc, snap, func, op, p, tokenizer, given, vars, reads)
+            }
+            None => root_by_search(alloc, snap, func, vars, reads),
+        },
+        Value::Int(_) => root_by_search(alloc, snap, func, vars, reads),
+        Value::Text(_) => root_by_search(alloc, snap, func, vars, reads),
+        Value::Bool(_) => root_by_search(alloc, snap, func, vars, reads),
+    }
+}
+
+// Those with a value below another, which is included or not, by an index of the values themselves or of dates.
 fn root_below<S: Snapshot, L: Ledger>(
     alloc: Global,
     snap: &S,
@@ -149,7 +205,7 @@ fn root_below<S: Snapshot, L: Ledger>(
             vars,
             reads,
         ),
-        None => root_by_search(alloc, snap, func, vars, reads),
+        None => root_until_moment(alloc, snap, func, op, p, high, vars, reads),
     }
 }
 
@@ -273,7 +329,7 @@ fn root_of_order<S: Snapshot, L: Ledger>(
 
 /// The nodes that have a value below or above another, in a lawful graph. By an index that lists all values of the
 /// predicate's kind in order it reads the range up to the value, or from it on, and then one list for each node there; by an
-/// index of dates the same from a moment on. Else each node with a value is asked.
+/// index of dates the same up to a moment, or from it on. Else each node with a value is asked.
 pub(crate) fn root_of_compared<S: Snapshot, L: Ledger>(
     alloc: Global,
     snap: &S,
