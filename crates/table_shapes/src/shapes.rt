@@ -11,6 +11,9 @@ use std::alloc::Global;
 // The most bytes that a text has.
 const MOST: usize = 1_048_576;
 
+// The name of each node of a product.
+const NAME: &str = "a name that takes some room in an answer";
+
 // The query of a text, if it is one.
 fn query_of(alloc: Global, text: &str) -> Mem<Option<Query>> {
     if text.len() > MOST {
@@ -111,36 +114,36 @@ pub(crate) fn normalized(alloc: Global, fields: &str) -> Mem<Option<String>> {
     Ok(Some(flat_text(alloc, trees, fields_of(&query))?))
 }
 
-// A node with a name.
-fn named(alloc: Global) -> Mem<Tree> {
+// A node with a name under a key.
+fn named(alloc: Global, key: &str) -> Mem<Tree> {
     let mut fields = List::new(alloc);
-    let key = Str::from_str(alloc, "a")?;
-    let tree = Tree::Int(1);
+    let key = Str::from_str(alloc, key)?;
+    let tree = Tree::Text(Str::from_str(alloc, NAME)?);
     fields.push(Field { key, tree })?;
     Ok(Tree::Node(fields))
 }
 
-// So many nodes with a name.
-fn nodes(alloc: Global, count: u32) -> Mem<Tree> {
+// So many nodes with a name under a key.
+fn nodes(alloc: Global, key: &str, count: u32) -> Mem<Tree> {
     let mut trees = List::new(alloc);
     for _ in 0..count {
-        trees.push(named(alloc)?)?;
+        trees.push(named(alloc, key)?)?;
     }
     Ok(Tree::Array(trees))
 }
 
-// A node with so many nodes under each of three edges.
+// A node with so many nodes under each of three edges; those of each edge have a key of their own.
 fn crossed(alloc: Global, count: u32) -> Mem<Tree> {
     let mut fields = List::new(alloc);
-    for key in ["x", "y", "z"] {
-        let key = Str::from_str(alloc, key)?;
-        let tree = nodes(alloc, count)?;
+    for (edge, key) in [("x", "a"), ("y", "b"), ("z", "c")] {
+        let tree = nodes(alloc, key, count)?;
+        let key = Str::from_str(alloc, edge)?;
         fields.push(Field { key, tree })?;
     }
     Ok(Tree::Node(fields))
 }
 
-/// `COUNT`: how many bytes the flat objects have of a node with so many nodes under each of three edges.
+/// `COUNT`: how many bytes the flat objects have of a node with so many nodes under each of three edges, each followed by each.
 pub(crate) fn product(alloc: Global, fields: &str) -> Mem<Option<String>> {
     let Ok(count) = fields.parse::<u32>() else {
         return Ok(None);
