@@ -1,10 +1,12 @@
 #!/usr/bin/env python3
 """Times nested queries of the built program at three sizes, and prints a table with the growth exponent of each.
 
-    bench_levels.py [--program PATH] [--sizes SMALL MIDDLE LARGE]
+    bench_levels.py [PROGRAM] [--sizes SMALL MIDDLE LARGE] [--only WORD]
 
-Each line is one query over a graph that is loaded first. The load is run alone too, and its time is taken off; of three runs the
-least counts. The memory is the most that the program had in the whole run.
+Each line is one query over a graph that is loaded first; where all nodes lead to all, or parents share their children, the sizes are
+smaller ones of its own. The program is asked through a pipe, and what counts is the time from a request to the end of its reply, the
+least of as many as half a second holds, and of three at least. The exponent is that by which it grows with the nodes, from the smallest
+size to the greatest. The memory is the most that the program had with the greatest, its graph included.
 """
 
 from __future__ import annotations
@@ -15,7 +17,6 @@ import os
 import random
 import subprocess
 import sys
-import tempfile
 import time
 from collections.abc import Callable, Iterator
 from pathlib import Path
@@ -23,18 +24,30 @@ from typing import NamedTuple
 
 PROGRAM = Path(__file__).resolve().parent.parent / "crates/dgraph/out/dgraph"
 STATEMENTS = 10_000
-RUNS = 3
+# How many seconds one query is asked over and over, and how often at least.
+LONG = 0.5
+LEAST = 3
+SIZES = [1_000, 10_000, 100_000]
+CLIQUES = (50, 100, 200)
+SHARED = (100, 300, 1_000)
 
 
 class Nested(NamedTuple):
-    """What is declared and stored by the number of nodes, and what is asked; how often, and the sizes in the place of the usual."""
+    """What is declared and stored by the number of nodes, and what is asked; and the sizes in the place of the usual."""
 
     name: str
     schema: str
     stored: Callable[[int], Iterator[str]]
-    asked: Callable[[int], str]
-    times: Callable[[int], int]
+    asked: str
     sizes: tuple[int, ...] = ()
+
+
+class Measured(NamedTuple):
+    """The seconds of one query, the kilobytes of the program, and what was answered."""
+
+    seconds: float
+    memory: int
+    answer: str
 
 
 def friends(size: int) -> Iterator[str]:
@@ -54,11 +67,11 @@ def all_to_all(size: int) -> Iterator[str]:
 
 
 def shared(size: int) -> Iterator[str]:
-    """Parents that all have the same children, a hundred each, of which each has a name."""
-    for child in range(1, 101):
+    """Parents that all have the same children, as many as there are parents, of which each has a name."""
+    for child in range(1, size + 1):
         yield f'<{hex(size + child)}> <name> "name {child}" .'
     for node in range(1, size + 1):
-        for child in range(1, 101):
+        for child in range(1, size + 1):
             yield f"<{hex(node)}> <friend> <{hex(size + child)}> ."
 
 
@@ -70,22 +83,37 @@ def ranked(size: int) -> Iterator[str]:
         yield f'<{hex(node)}> <rank> "{number}" .'
 
 
-def deep(depth: int, fields: str) -> str:
-    """Braces in braces, so deep."""
-    return "{ friend " * depth + f"{{ {fields} }}" + " }" * depth
+def deep(fields: str, depth: int = 10, edge: str = "friend", directives: str = "") -> str:
+    """A query from one node along so many edges."""
+    braces = f"{{ {edge} " * depth + f"{{ {fields} }}" + " }" * depth
+    return f"{{ q(func: uid(0x1)) {directives} {braces} }}"
 
 
-EDGES = "name: string . friend: [uid] @reverse @count ."
+NAMES = "name: string . friend: [uid] @reverse @count ."
 RANKS = "rank: int @index(int) ."
+TWO = "friend (first: 2)"
+EACH = "{ q(func: has(friend))"
+SHARE = "parents that share as many children:"
+ALL = "where all lead to all, depth 10:"
 QUERIES = [
-    Nested("three hops from a node, 2 to 14 friends each", EDGES, friends, lambda size: f"{{ q(func: uid(0x1)) {deep(3, 'name')} }}", lambda size: 20),
-    Nested("the friends of all, by number and by name", EDGES, friends, lambda size: "{ q(func: has(friend)) { count(friend) friend { name } } }", lambda size: 2),
-    Nested("all parents of 100 shared children", EDGES, shared, lambda size: "{ q(func: has(friend)) { friend (first: 1) { name } } }", lambda size: 2, (100, 1_000, 4_000)),
-    Nested("depth 10 where all lead to all, nothing shown", EDGES, all_to_all, lambda size: f"{{ q(func: uid(0x1)) {deep(10, 'name')} }}", lambda size: 2, (50, 100, 200)),
-    Nested("depth 10 where all lead to all, too large", EDGES, all_to_all, lambda size: f"{{ q(func: uid(0x1)) {deep(10, 'uid')} }}", lambda size: 2, (50, 100, 200)),
-    Nested("depth 10 where all lead to all, pages of two", EDGES, all_to_all, lambda size: f"{{ q(func: uid(0x1)) {deep(10, 'uid').replace('friend', 'friend (first: 2)')} }}", lambda size: 2, (50, 100, 200)),
-    Nested("order by a number, 10 shown", RANKS, ranked, lambda size: "{ q(func: has(rank), orderdesc: rank, first: 10) { rank } }", lambda size: 4),
-    Nested("the first 10 of all", RANKS, ranked, lambda size: "{ q(func: has(rank), first: 10) { rank } }", lambda size: 20),
+    Nested("three hops from a node, of 2 to 14 friends each", NAMES, friends, deep("name", 3)),
+    Nested("three hops with a cascade", NAMES, friends, deep("name friend", 3, directives="@cascade")),
+    Nested("three hops as flat objects", NAMES, friends, deep("n: name", 3, directives="@normalize")),
+    Nested("two friends of each, and how many there are", NAMES, friends, EACH + " { count(friend) friend (first: 2) { name } } }"),
+    Nested(f"{SHARE} how many", NAMES, shared, EACH + " { friend { count(uid) } } }", SHARED),
+    Nested(f"{SHARE} ten of each in order", NAMES, shared, EACH + " { friend (orderdesc: name, first: 10) { name } } }", SHARED),
+    Nested(f"{SHARE} a cascade that drops all", NAMES, shared, EACH + " { friend @cascade { count(uid) friend } } }", SHARED),
+    Nested(f"{ALL} nothing shown", NAMES, all_to_all, deep("name"), CLIQUES),
+    Nested(f"{ALL} too large", NAMES, all_to_all, deep("uid"), CLIQUES),
+    Nested(f"{ALL} pages of two", NAMES, all_to_all, deep("uid", edge=TWO), CLIQUES),
+    Nested(f"{ALL} a cascade that leaves nothing", NAMES, all_to_all, deep("name", directives="@cascade"), CLIQUES),
+    Nested(f"{ALL} a cascade, too large", NAMES, all_to_all, deep("uid", directives="@cascade"), CLIQUES),
+    Nested(f"{ALL} a cascade, pages of two", NAMES, all_to_all, deep("uid", edge=TWO, directives="@cascade"), CLIQUES),
+    Nested(f"{ALL} flat objects, none", NAMES, all_to_all, deep("n: name", directives="@normalize"), CLIQUES),
+    Nested(f"{ALL} flat objects, too large", NAMES, all_to_all, deep("u: uid", directives="@normalize"), CLIQUES),
+    Nested(f"{ALL} flat objects, pages of two", NAMES, all_to_all, deep("u: uid", edge=TWO, directives="@normalize"), CLIQUES),
+    Nested("order by a number, 10 shown", RANKS, ranked, "{ q(func: has(rank), orderdesc: rank, first: 10) { rank } }"),
+    Nested("the first 10 of all", RANKS, ranked, "{ q(func: has(rank), first: 10) { rank } }"),
 ]
 
 
@@ -105,59 +133,103 @@ def batches(lines: Iterator[str]) -> Iterator[str]:
     yield "\n".join(batch)
 
 
-def script(query: Nested, size: int, times: int) -> bytes:
-    """The load, and then the query so often in one transaction."""
-    parts = [frame("alter", query.schema)]
+def load(query: Nested, size: int) -> Iterator[bytes]:
+    """The requests before the query."""
+    yield frame("alter", query.schema)
     for body in batches(query.stored(size)):
-        parts += [b"begin 1\n", frame("mutate 1", body), b"commit 1\n"]
-    parts += [b"begin 1\n", *[frame("query 1", query.asked(size))] * times, b"discard 1\n"]
-    return b"".join(parts)
+        yield from (b"begin 1\n", frame("mutate 1", body), b"commit 1\n")
+    yield b"begin 1\n"
 
 
-def run(program: Path, text: bytes) -> tuple[float, int, bytes]:
-    """The seconds and the kilobytes that a run takes, and the first line of its last reply but one."""
-    with tempfile.TemporaryFile() as given, tempfile.TemporaryFile() as written:
-        given.write(text)
-        given.seek(0)
-        started = time.perf_counter()
-        child = subprocess.Popen([program, "run"], stdin=given, stdout=written)
-        _, status, usage = os.wait4(child.pid, 0)
-        took = time.perf_counter() - started
-        child.returncode = os.waitstatus_to_exitcode(status)
-        if child.returncode != 0:
-            raise SystemExit(f"the program ended with {child.returncode}")
-        written.seek(0)
-        lines = [line for line in written.read().split(b"\n") if line.startswith((b"ok ", b"error "))]
-        return took, usage.ru_maxrss, lines[-2]
+def answer_in(reply: str) -> str:
+    """What the first line of a reply says of the answer: how long it is, or why there is none."""
+    words = reply.split()
+    return f"{int(words[-1]):,} bytes" if words[0] == "ok" else " ".join(words[1:])
 
 
-def measured(program: Path, query: Nested, size: int) -> tuple[float, int, str]:
-    """The seconds of one query, the kilobytes of the run, and what was answered."""
-    times = query.times(size)
-    bare = min(run(program, script(query, size, 0))[0] for _ in range(RUNS))
-    runs = [run(program, script(query, size, times)) for _ in range(RUNS)]
-    said = runs[0][2].decode()
-    answer = f"{said.split()[-1]} bytes" if said.startswith("ok") else said.split(" ", 1)[1]
-    return max(min(one[0] for one in runs) - bare, 1e-9) / times, max(one[1] for one in runs), answer
+class Running:
+    """The program, which is asked one request after another."""
+
+    def __init__(self, program: Path) -> None:
+        self.child = subprocess.Popen([program, "run"], stdin=subprocess.PIPE, stdout=subprocess.PIPE)
+
+    def __enter__(self) -> Running:
+        return self
+
+    def __exit__(self, *_: object) -> None:
+        if self.child.returncode is None:
+            self.child.kill()
+        with self.child:
+            pass
+
+    def ask(self, request: bytes) -> str:
+        """The first line of the reply, which is read to its end."""
+        assert self.child.stdin is not None and self.child.stdout is not None
+        self.child.stdin.write(request)
+        self.child.stdin.flush()
+        line = self.child.stdout.readline().decode()
+        if not line:
+            raise SystemExit("the program ended before its time")
+        if line.startswith(("ok mutate ", "ok query ")):
+            self.child.stdout.read(int(line.split()[-1]) + 1)
+        return line
+
+    def timed(self, request: bytes) -> tuple[float, str]:
+        """The least time of a request that is asked over and over, and the first line of its reply."""
+        took: list[float] = []
+        line = ""
+        while sum(took) < LONG or len(took) < LEAST:
+            started = time.perf_counter()
+            line = self.ask(request)
+            took.append(time.perf_counter() - started)
+        return min(took), line
+
+    def end(self) -> int:
+        """Ends the program, and gives the most kilobytes that it had."""
+        assert self.child.stdin is not None
+        self.child.stdin.close()
+        _, status, usage = os.wait4(self.child.pid, 0)
+        self.child.returncode = os.waitstatus_to_exitcode(status)
+        if self.child.returncode != 0:
+            raise SystemExit(f"the program ended with {self.child.returncode}")
+        return usage.ru_maxrss
+
+
+def measured(program: Path, query: Nested, size: int) -> Measured:
+    """One query over a graph of a size."""
+    with Running(program) as running:
+        for request in load(query, size):
+            line = running.ask(request)
+            if not line.startswith("ok "):
+                raise SystemExit(f"the load was answered {line}")
+        took, line = running.timed(frame("query 1", query.asked))
+        return Measured(took, running.end(), answer_in(line))
 
 
 def exponent(sizes: list[int], took: list[float]) -> float:
+    """How the time grows from the first size to the last."""
     return math.log(took[-1] / took[0]) / math.log(sizes[-1] / sizes[0])
+
+
+def line_of(query: Nested, sizes: list[int], found: list[Measured]) -> str:
+    """A query's line of the table."""
+    cells = [query.name, ", ".join(f"{size:,}" for size in sizes)]
+    cells += [f"{one.seconds * 1000:,.2f} ms" for one in found]
+    cells += [f"{exponent(sizes, [one.seconds for one in found]):.2f}", found[-1].answer, f"{found[-1].memory // 1024} MB"]
+    return f"| {' | '.join(cells)} |"
 
 
 def main() -> int:
     reader = argparse.ArgumentParser(description=__doc__, formatter_class=argparse.RawDescriptionHelpFormatter)
-    reader.add_argument("--program", type=Path, default=PROGRAM)
-    reader.add_argument("--sizes", type=int, nargs=3, default=[1_000, 10_000, 100_000])
+    reader.add_argument("program", type=Path, nargs="?", default=PROGRAM)
+    reader.add_argument("--sizes", type=int, nargs=3, default=SIZES)
+    reader.add_argument("--only", default="", help="a word in the names of the queries that are timed")
     said = reader.parse_args()
-    print("| Query | nodes | time | answer | memory | exponent |\n|---|---|---|---|---|---|", flush=True)
+    print("| Query | Nodes | Small | Middle | Large | Exponent | Answer, large | Memory |\n|---|---|---|---|---|---|---|---|", flush=True)
     for query in QUERIES:
-        sizes = list(query.sizes) or said.sizes
-        done = [measured(said.program, query, size) for size in sizes]
-        grew = exponent(sizes, [took for took, _, _ in done])
-        for size, (took, memory, answer) in zip(sizes, done):
-            last = f"{grew:.2f}" if size == sizes[-1] else ""
-            print(f"| {query.name} | {size:,} | {took * 1000:,.2f} ms | {answer} | {memory // 1024} MB | {last} |", flush=True)
+        if said.only in query.name:
+            sizes = list(query.sizes) or said.sizes
+            print(line_of(query, sizes, [measured(said.program, query, size) for size in sizes]), flush=True)
     return 0
 
 

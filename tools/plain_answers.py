@@ -1,7 +1,7 @@
 """Queries, answered plainly: each node is looked at by itself, in triples alone and without an index.
 
-Built are queries whose blocks each have a function, without variables and with no directive but `@filter`: what their fields
-show stands in `plain_levels.py`. Patterns are read as Python reads them, of a part of their language; `pattern_of` refuses
+Built are queries whose blocks each have a function, without variables and `@recurse`: what their fields show stands in
+`plain_levels.py`. Patterns are read as Python reads them, of a part of their language; `pattern_of` refuses
 the faults that are known and doesn't answer what it doesn't know.
 """
 
@@ -13,7 +13,7 @@ from collections.abc import Iterable, Iterator
 from typing import NamedTuple, Optional, Union
 
 from plain_graph import Definition, Graph, folded, terms
-from plain_levels import block_objects
+from plain_levels import LONGEST_ANSWER, asks, block_objects, by_commas
 from plain_queries import (
     COMPARISONS,
     TERMS,
@@ -34,7 +34,6 @@ from plain_queries import (
 from plain_tokens import Refusal
 from plain_values import NODE, TEXT, Posting, json_text, read_posting
 
-LONGEST_ANSWER = 16_777_216
 Schema = dict[str, Definition]
 # The indexes that serve each function at a root.
 SORTABLE = {"exact", "int", "year", "month", "day", "hour"}
@@ -107,21 +106,17 @@ def is_plain(place: Asked) -> bool:
 
 
 def are_built(fields: Optional[list[Field]]) -> bool:
-    """Whether fields define no variable and use none, and no edge has a directive but filters."""
+    """Whether fields define no variable and use none, to any depth."""
     for variable, _, item in fields or []:
         if variable or isinstance(item, (Val, Aggregate)):
             return False
-        if isinstance(item, Followed) and not (only_filters(item.directives) and are_built(item.fields)):
+        if isinstance(item, Followed) and not are_built(item.fields):
             return False
     return True
 
 
-def only_filters(directives: list[Directive]) -> bool:
-    return all(directive.word == "filter" for directive in directives)
-
-
 def is_built(block: Block) -> bool:
-    if block.function is None or block.variable or not only_filters(block.directives):
+    if block.function is None or block.variable or asks(block.directives, "recurse"):
         return False
     return are_built(block.fields) and all(is_plain(place) for place in places_of(block))
 
@@ -393,7 +388,7 @@ class View:
         return f"[{','.join(values)}]" if self.schema[name].is_list else values[0]
 
     def block(self, block: Block) -> str:
-        return f'"{block.name}":[{",".join(block_objects(self, block))}]'
+        return f'"{block.name}":[{by_commas(block_objects(self, block))}]'
 
     def answer(self, blocks: list[Block]) -> str:
         return f'{{"data":{{{",".join(self.block(block) for block in blocks if block.name != "var")}}}}}'

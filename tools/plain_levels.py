@@ -1,27 +1,49 @@
 """What fields show of nodes, node by node: whole trees first, then what `@cascade` and `@normalize` leave of them, and last
 what is shown.
 
-A whole tree has each node of a list, also one of which nothing is shown. `View` of `plain_answers.py` looks at the graph.
+A whole tree has each node of a list, also one of which nothing is shown. `View` of `plain_answers.py` looks at the graph. The tree
+of a node under an edge of the query is made once, and so is what is found out of it, however many edges lead there. Nothing is made
+that is longer than an answer may be.
 """
 
 from __future__ import annotations
 
-from collections.abc import Iterable
-from typing import TYPE_CHECKING, NamedTuple, Optional, Union
+from collections.abc import Callable, Iterable, Iterator
+from typing import TYPE_CHECKING, Any, Optional, TypeVar, Union
 
 from plain_queries import Argument, Block, Count, CountUid, Directive, Edge, Field, Followed, Uid
+from plain_tokens import Refusal
 from plain_values import NODE, Posting
 
 if TYPE_CHECKING:
     from plain_answers import View
 
+LONGEST_ANSWER = 16_777_216
 NODES, ONE, VALUES = "nodes", "one", "values"
+Found = TypeVar("Found")
 
 
-class Tree(NamedTuple):
-    """A node with what stands under its keys: a text as it is shown, one node, or nodes."""
+class Tree:
+    """A node with what stands under its keys: a text as it is shown, one node, or nodes; and what was found out of it."""
 
-    under: dict[str, Union[str, "Tree", list["Tree"]]]
+    def __init__(self, under: dict[str, Union[str, "Tree", list["Tree"]]]) -> None:
+        self.under = under
+        self.known: dict[str, Any] = {}
+
+
+# Trees by the edge of a query under which they stand (its identity), and by their nodes.
+Made = dict[tuple[int, int], Tree]
+
+
+def once(find: Callable[[list[Field], Tree], Found]) -> Callable[[list[Field], Tree], Found]:
+    """What is found out of a tree, kept with it: a tree always stands under the same fields."""
+
+    def found(fields: list[Field], tree: Tree) -> Found:
+        if find.__name__ not in tree.known:
+            tree.known[find.__name__] = find(fields, tree)
+        return tree.known[find.__name__]
+
+    return found
 
 
 # ---------------------------------------------------------------------------------------------------
@@ -111,7 +133,7 @@ def counts_in(fields: Optional[list[Field]]) -> list[str]:
     return [key_of(field) for field in fields or [] if isinstance(field.item, CountUid)]
 
 
-def under_edge(view: View, item: Followed, node: int) -> Union[str, Tree, list[Tree], None]:
+def under_edge(view: View, item: Followed, node: int, made: Made) -> Union[str, Tree, list[Tree], None]:
     """What stands under an edge of a node."""
     sort = sort_of(view, item.edge)
     if sort is None:
@@ -119,7 +141,10 @@ def under_edge(view: View, item: Followed, node: int) -> Union[str, Tree, list[T
     if sort == VALUES and not item.edge.back:
         return view.shown(item.edge.predicate, node)
     nodes = listed(view, item.arguments or [], item.directives, along(view, item.edge, node))
-    trees: list[Tree] = [whole(view, item.fields or [], child) for child in nodes]
+    for child in nodes:
+        if (id(item), child) not in made:
+            made[id(item), child] = whole(view, item.fields or [], child, made)
+    trees = [made[id(item), child] for child in nodes]
     if asks(item.directives, "cascade"):
         trees = remaining(item.fields or [], trees)
     if sort == ONE and not counts_in(item.fields):
@@ -127,8 +152,8 @@ def under_edge(view: View, item: Followed, node: int) -> Union[str, Tree, list[T
     return trees
 
 
-def whole(view: View, fields: list[Field], node: int) -> Tree:
-    """The whole tree of a node."""
+def whole(view: View, fields: list[Field], node: int, made: Made) -> Tree:
+    """The whole tree of a node, by the trees below it that were made before."""
     under: dict[str, Union[str, Tree, list[Tree]]] = {}
     for field in fields:
         item, found = field.item, None
@@ -137,7 +162,7 @@ def whole(view: View, fields: list[Field], node: int) -> Tree:
         elif isinstance(item, Count):
             found = str(view.ends(item.edge, node))
         elif isinstance(item, Followed):
-            found = under_edge(view, item, node)
+            found = under_edge(view, item, node, made)
         if found is not None:
             under[key_of(field)] = found
     return Tree(under)
@@ -153,6 +178,7 @@ def remaining(fields: list[Field], trees: Iterable[Tree]) -> list[Tree]:
     return [tree for tree in (cascaded(fields, tree) for tree in trees) if tree is not None]
 
 
+@once
 def cascaded(fields: list[Field], tree: Tree) -> Optional[Tree]:
     """A node without the nodes below it that lack something; None where it lacks something itself."""
     under: dict[str, Union[str, Tree, list[Tree]]] = {}
@@ -170,6 +196,7 @@ def cascaded(fields: list[Field], tree: Tree) -> Optional[Tree]:
     return Tree(under)
 
 
+@once
 def shown(fields: list[Field], tree: Tree) -> list[str]:
     """The texts of the fields of a node that are shown."""
     texts = []
@@ -180,11 +207,11 @@ def shown(fields: list[Field], tree: Tree) -> list[str]:
         if isinstance(field.item, Followed) and not isinstance(found, str):
             inner = field.item.fields or []
             if isinstance(found, Tree):
-                below = shown(inner, found)
-                found = f"{{{','.join(below)}}}" if below else ""
+                below = by_commas(shown(inner, found))
+                found = f"{{{below}}}" if below else ""
             else:
-                objects = array(inner, found)
-                found = f"[{','.join(objects)}]" if objects else ""
+                objects = by_commas(array(inner, found))
+                found = f"[{objects}]" if objects else ""
         if found:
             texts.append(f"{json_key(key_of(field))}:{found}")
     return texts
@@ -194,28 +221,64 @@ def json_key(key: str) -> str:
     return f'"{key}"'
 
 
-def array(fields: Optional[list[Field]], trees: list[Tree]) -> list[str]:
+def by_commas(texts: Iterable[str]) -> str:
+    """Texts that all stand in the answer, with commas between them; refused as soon as no answer is so long."""
+    taken: list[str] = []
+    length = 0
+    for text in texts:
+        taken.append(text)
+        length += len(text)
+        if length > LONGEST_ANSWER:
+            raise Refusal(17, "AnswerTooLarge")
+    return ",".join(taken)
+
+
+def array(fields: list[Field], trees: list[Tree]) -> Iterator[str]:
     """The objects of a list: the number of its nodes under each key that asks it, then the nodes that show something."""
-    objects = [f"{{{json_key(key)}:{len(trees)}}}" for key in counts_in(fields)]
-    texts = [shown(fields or [], tree) for tree in trees]
-    return objects + [f"{{{','.join(fields)}}}" for fields in texts if fields]
+    yield from (f"{{{json_key(key)}:{len(trees)}}}" for key in counts_in(fields))
+    yield from (f"{{{by_commas(texts)}}}" for tree in trees if (texts := shown(fields, tree)))
 
 
 Pairs = dict[str, str]
+# The least bytes that a pair has in an answer.
+SHORTEST = len('"k":0,')
+
+
+def refuse_more(pairs: int) -> None:
+    """Refuses more pairs than an answer has. Each object stands in one of the block at least, with its keys and maybe other values."""
+    if pairs * SHORTEST > LONGEST_ANSWER:
+        raise Refusal(17, "AnswerTooLarge")
+
+
+def pairs_in(objects: list[Pairs]) -> int:
+    return sum(map(len, objects))
 
 
 def product(objects: list[Pairs], others: list[Pairs]) -> list[Pairs]:
     """Each object followed by each of the others; the objects alone where there are no others."""
     if not others:
         return objects
+    refuse_more(max(len(others) * pairs_in(objects), len(objects) * pairs_in(others)))
     return [joined(one, other) for one in objects for other in others]
 
 
 def joined(one: Pairs, more: Pairs) -> Pairs:
     """An object with the pairs of another of which it doesn't have the key."""
-    return {**one, **{key: text for key, text in more.items() if key not in one}}
+    return {**one, **{key: text for key, text in more.items() if key not in one}} if one else more
 
 
+def flats(fields: list[Field], trees: list[Tree]) -> list[Pairs]:
+    """The flat objects of nodes, in order."""
+    objects: list[Pairs] = []
+    pairs = 0
+    for tree in trees:
+        pairs += pairs_in(flat(fields, tree))
+        refuse_more(pairs)
+        objects += flat(fields, tree)
+    return objects
+
+
+@once
 def flat(fields: list[Field], tree: Tree) -> list[Pairs]:
     """The flat objects of a node, of the fields with an alias."""
     objects: list[Pairs] = [{}]
@@ -229,18 +292,20 @@ def flat(fields: list[Field], tree: Tree) -> list[Pairs]:
             continue
         assert isinstance(field.item, Followed)
         children = [found] if isinstance(found, Tree) else found
-        objects = product(objects, [pairs for child in children for pairs in flat(field.item.fields or [], child)])
+        objects = product(objects, flats(field.item.fields or [], children))
     return [one for one in objects if one]
 
 
-def block_objects(view: View, block: Block) -> list[str]:
+def block_objects(view: View, block: Block) -> Iterator[str]:
     """The objects of a block's array."""
     assert block.function is not None
     nodes = listed(view, block.arguments, block.directives, view.root(block.function))
-    trees = [whole(view, block.fields, node) for node in nodes]
+    made: Made = {}
+    trees = [whole(view, block.fields, node, made) for node in nodes]
     if asks(block.directives, "cascade"):
         trees = remaining(block.fields, trees)
     if asks(block.directives, "normalize"):
-        flats = [pairs for tree in trees for pairs in flat(block.fields, tree)]
-        return [f"{{{','.join(f'{json_key(key)}:{text}' for key, text in pairs.items())}}}" for pairs in flats]
-    return array(block.fields, trees)
+        for pairs in flats(block.fields, trees):
+            yield f"{{{','.join(f'{json_key(key)}:{text}' for key, text in pairs.items())}}}"
+    else:
+        yield from array(block.fields, trees)

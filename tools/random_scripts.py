@@ -96,8 +96,8 @@ PATTERNS = ["red", "^R", "d$", "r.d", "[a-c]a", "[^a-z ]", "ca?r", "o*x", "é", 
 PATTERNS += ["カ", r"\/", "^$", "[A-C]+", "s", "k", "5½ ?Ⅷ", "."]
 BAD_PATTERNS = ["(", ")", "[a", "*a", "a)", r"a\1", "a(b"]
 # Queries that aren't built, behind their root.
-OTHER_FORMS = ["{ x as name }", "{ x as friend { name } }", "{ val(x) }", "{ friend @cascade { name } }", "@cascade { name }"]
-OTHER_FORMS += ["@normalize { n: name }", "@recurse(depth: 3) { name }", "@filter(uid(x)) { uid }"]
+OTHER_FORMS = ["{ x as name }", "{ x as friend { name } }", "{ val(x) }", "@recurse(depth: 3) { name }", "@filter(uid(x)) { uid }"]
+OTHER_FORMS += ["@cascade { x as name }", "@normalize { n: val(x) }"]
 OTHER_FORMS += ["@filter(eq(val(x), 1)) { x as age }", "@filter(uid_in(boss, x)) { uid }", "{ friend (orderasc: val(x)) { uid } }"]
 UNBUILT = ["line", "state", "roll name", "rollplan x.y", "movestart name 2", "moveoff friend"]
 DIRECTIVES = ["@index", "@reverse", "@count", "@upsert", "@index(exact)", "@index(term, trigram)", "@index(int)"]
@@ -281,25 +281,34 @@ class Draw(random.Random):
         self.shuffle(said)
         return said
 
-    def tested(self, most: float) -> str:
-        return f" @filter({self.filter()})" if self.one_in(most) else ""
+    def list_directives(self, tested: float, words: list[str]) -> list[str]:
+        """The directives of a list: a filter of one in so many, and now and then each of these words, in any order."""
+        said = [f"@filter({self.filter()})"] if self.one_in(tested) else []
+        said += [word for word in words if self.one_in(3.5)]
+        self.shuffle(said)
+        return said
 
-    def edge_field(self, depth: int) -> str:
+    def edge_field(self, depth: int, has_few: bool, is_flat: bool) -> str:
         """An edge with what stands behind it, so deep at most."""
         arguments = self.arguments() if self.one_in(2) else []
         brackets = f"({', '.join(arguments)})" if arguments or self.one_in(20) else ""
-        braces = "" if self.one_in(15) else f" {{ {self.fields(depth - 1)} }}"
-        return f"{self.edge()}{brackets}{self.tested(4)}{braces}"
+        directives = self.list_directives(4, ["@cascade"])
+        few = has_few or "@cascade" in directives
+        braces = [] if self.one_in(15) else [f"{{ {self.fields(depth - 1, few, is_flat)} }}"]
+        edge = self.choice(EDGES) if (few or is_flat) and self.one_in(1.5) else self.edge()
+        return " ".join([edge + brackets, *directives, *braces])
 
-    def fields(self, depth: int) -> str:
-        """Fields, seldom two under one key, with edges so deep at most."""
-        names = self.sample([*PREDICATES, "nick"], self.choice([0, 1, 1, 2, 3, 6]))
+    def fields(self, depth: int, has_few: bool, is_flat: bool) -> str:
+        """Fields, seldom two under one key, with edges so deep at most; few in a cascade, since a node seldom has many, and in flat
+        objects more under an alias, of which some stand again at another depth."""
+        names = self.sample([*PREDICATES, "nick"], self.choice([0, 0, 1, 1] if has_few else [0, 1, 1, 2, 3, 6]))
         names += [] if self.one_in(4) else ["uid"]
         names += [f"count({self.choice(['uid', self.edge()])})"] if self.one_in(5) else []
         same = ["uid: ", "name: "] if self.one_in(4) else []
-        aliases = self.sample(["n: ", "o:", *same, *[""] * 12], len(names))
+        aliases = self.sample(["n: ", "o:", "a: " if is_flat else "", *same, *[""] * (5 if is_flat else 12)], len(names))
         said = [alias + name for alias, name in zip(aliases, names)]
-        said += [f"e{place}: {self.edge_field(depth)}" for place in range(self.choice([0, 0, 1, 2]) if depth else 0)]
+        edges = range(self.choice([0, 1, 1, 2] if has_few or is_flat else [0, 0, 1, 2]) if depth else 0)
+        said += [f"e{place}: {self.edge_field(depth, has_few, is_flat)}" for place in edges]
         return self.choice([" ", ", "]).join(said)
 
     def block(self, name: str) -> str:
@@ -308,7 +317,10 @@ class Draw(random.Random):
             return f"{name}(func: {root}) {self.choice(OTHER_FORMS)}"
         arguments = self.arguments() if self.one_in(3) else []
         said = ", ".join([f"func: {root}", *arguments])
-        return f"{name}({said}){self.tested(2.5)} {{ {self.fields(self.choice([0, 0, 1, 2, 3]))} }}"
+        directives = self.list_directives(2.5, ["@cascade", "@normalize"])
+        shape = ("@cascade" in directives, "@normalize" in directives)
+        fields = self.fields(self.choice([0, 1, 2, 3] if any(shape) else [0, 0, 1, 2, 3]), *shape)
+        return " ".join([f"{name}({said})", *directives, f"{{ {fields} }}"])
 
     def query(self) -> str:
         if self.one_in(6):

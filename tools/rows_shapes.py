@@ -11,13 +11,15 @@ import sys
 from collections.abc import Iterator
 from typing import Optional, Union
 
-from plain_levels import Tree, counts_in, flat, key_of, remaining, shown
+from plain_levels import LONGEST_ANSWER, Tree, counts_in, flat, key_of, remaining, shown
 from plain_queries import Count, CountUid, Field, Followed, Uid, read_query
 from plain_values import read_posting
 from rows_printed import print_rows
 
 SEED = 30
 KINDS = {"text": "string", "int": "int", "bool": "bool", "time": "dateTime"}
+# The name of each node of a product.
+NAME = "a name that takes some room in an answer"
 
 # ---------------------------------------------------------------------------------------------------
 # Lists of nodes
@@ -225,10 +227,10 @@ def random_shapes() -> Iterator[tuple[str, str]]:
 
 
 def product(count: int) -> str:
-    """How many bytes the flat objects of a node with so many nodes under each of three edges have, as an answer: the first edge alone
-    asks for the key that these nodes have."""
-    size = len(answer_text([])) + count * len('{"a":1},') - (count > 0)
-    return f"{size} bytes"
+    """How many bytes the flat objects of a node with so many nodes under each of three edges have, as an answer: each with each."""
+    one = len(pairs_text({key: f'"{NAME}"' for key in "abc"}) + ",")
+    size = len(answer_text([])) + count**3 * one - (count > 0)
+    return f"{size} bytes" if size <= LONGEST_ANSWER else "the answer is too large"
 
 
 def rows() -> Iterator[tuple[str, Optional[str]]]:
@@ -243,8 +245,9 @@ def rows() -> Iterator[tuple[str, Optional[str]]]:
     yield from ((row, paged(row.split("\t")[1:])) for row in HAND_PAGES)
     yield "# Whole trees at random: what a cascade leaves, what is shown, flat objects. Wanted: tools/plain_levels.py.", ""
     yield from random_shapes()
-    yield "# Nodes under three edges, of which the first alone asks for the key that they have.", ""
-    yield from ((f"product\t{count}", product(count)) for count in (0, 1, 2, 50, 93, 94, 95, 400, 1000))
+    yield "# Nodes under three edges, each followed by each. Wanted: counted by hand.", ""
+    yield from ((f"product\t{count}", product(count)) for count in (0, 1, 2, 10, 48, 49, 400, 1000))
+    yield "product\tx", None
     yield "# Rows that can't be read.", ""
     yield from ((row, None) for row in ("cascade\t{ q(", "strip\t{ q(func: uid(0x1)) { uid } }\tnode 1", "normalize\t{ }\tfield a", "else\t1"))
 

@@ -63,7 +63,8 @@ MORE = {
     "query": [
         "functions are uid, has, eq, le, lt, ge, gt, between, anyofterms, allofterms, regexp and, in a filter, uid_in;",
         "all but uid and has need an index at a block's head, count(..) needs @count, and ~ needs @reverse;",
-        "of a predicate of nodes nothing is shown yet",
+        "an edge has braces of its own: `friend { name friend { name } }`, with arguments and @filter before them;",
+        "@cascade drops nodes that lack a field, also below; @normalize makes flat objects of the fields with an alias",
     ],
 }
 

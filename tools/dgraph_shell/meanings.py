@@ -144,7 +144,7 @@ FORMS = {"alter": DEFINITION, "mutate": STATEMENT, "query": QUERY}
 # What is built where a request is answered 98.
 BUILT_FORMS = {
     "query": "built are queries as in `{ q(func: eq(name, \"Ann\"), first: 5) @filter(has(age)) { name friend { name } } }`: functions, "
-    "filters, edges, counts, orders and pages; no variables, aggregates, @cascade, @normalize and @recurse",
+    "filters, edges, counts, orders, pages, @cascade and @normalize; no variables, aggregates and @recurse",
 }
 BUILT_VERBS = f"built are {', '.join(verb.line for verb in BUILT)}"
 

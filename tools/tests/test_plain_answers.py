@@ -95,7 +95,8 @@ class Answers(unittest.TestCase):
             "{ q(func: eq(bare, 1)) @cascade { name } !": "3 BadToken 41",
             "{" * 33 + "x": "5 TooDeep 32",
             "{ q(func: eq(bare, 1)) @cascade { name }": "4 BadSyntax 40",
-            "{ q(func: eq(bare, 1)) @cascade { name } }": "98 Unbuilt",
+            "{ q(func: eq(bare, 1)) @cascade { name } r(func: uid(x)) { } }": "98 Unbuilt",
+            "{ q(func: eq(bare, 1)) @cascade { name } }": "9 NotIndexed bare eq",
             '{ q(func: eq(age, "x")) { uid } r(func: eq(bare, 1)) { uid } }': "9 NotIndexed bare eq",
             '{ q(func: eq(age, "x")) @filter(has(~boss)) { uid } }': "9 NotIndexed boss ~",
             "{ q(func: eq(count(boss), 1)) { uid } }": "9 NotIndexed boss count",
@@ -128,6 +129,66 @@ class Answers(unittest.TestCase):
         }.items():
             self.assertEqual(self.reply(f"{{ q(func: has(name)) {{ {fields} }} }}"), f'{{"data":{{"q":{shown}}}}}', fields)
 
+    def shown(self, block: str) -> str:
+        """What is shown of a block, behind its name."""
+        front, end = '{"data":{"q":[', "]}}"
+        said = self.reply(f"{{ q{block} }}")
+        self.assertTrue(said.startswith(front) and said.endswith(end), said)
+        return said[len(front) : -len(end)]
+
+    def test_cascades(self) -> None:
+        for block, shown in {
+            "(func: has(name)) @cascade { name age }": '{"name":"Ann Lee","age":30},{"name":"Bob","age":-4}',
+            "(func: has(name)) @cascade { name friend { age } }": '{"name":"Ann Lee","friend":[{"age":-4}]}',
+            "(func: has(name)) { name friend @cascade { age } }": '{"name":"Ann Lee","friend":[{"age":-4}]},{"name":"Bob"},{"name":"ann"}',
+            "(func: has(name)) @cascade { uid friend }": '{"uid":"0x1"},{"uid":"0x2"}',
+            "(func: has(name)) @cascade { count(uid) age nope: count(nope) }":
+                '{"count":2},{"age":30,"nope":0},{"age":-4,"nope":0}',
+            "(func: has(name)) { friend @cascade { count(uid) boss } }":
+                '{"friend":[{"count":1}]},{"friend":[{"count":0}]},{"friend":[{"count":0}]}',
+            "(func: has(name), first: 2) @cascade { bare }": "",
+            "(func: has(name), offset: 2) @cascade { bare }": '{"bare":"x"}',
+            "(func: has(name)) @cascade { nope }": "",
+            "(func: has(name)) @cascade { }": "",
+            "(func: uid(0x7)) @cascade { uid }": '{"uid":"0x7"}',
+            "(func: has(name)) @cascade { boss { name } }": '{"boss":{"name":"Ann Lee"}}',
+            "(func: has(name)) @cascade { ~friend { boss { tag } } }": '{"~friend":[{"boss":{"tag":["a","b"]}}]}',
+        }.items():
+            self.assertEqual(self.shown(block), shown, block)
+
+    def test_flat_objects(self) -> None:
+        for block, shown in {
+            "(func: has(name)) @normalize { name }": "",
+            "(func: has(name)) @normalize { a: age name }": '{"a":30},{"a":-4}',
+            "(func: has(name)) @normalize { a: age friend { f: name } }":
+                '{"a":30,"f":"Bob"},{"a":30,"f":"ann"},{"a":-4,"f":"ann"}',
+            "(func: has(name)) @normalize { n: name friend { n: name a: age } }":
+                '{"n":"Ann Lee","a":-4},{"n":"Ann Lee"},{"n":"Bob"},{"n":"ann"}',
+            "(func: has(name)) @normalize { friend { n: name a: age } n: name }":
+                '{"n":"Bob","a":-4},{"n":"ann"},{"n":"ann"},{"n":"ann"}',
+            "(func: uid(0x1)) @normalize { x: friend { u: uid } y: friend { v: uid } t: tag }":
+                ",".join(f'{{"u":"{u}","v":"{v}","t":["a","b"]}}' for u in ("0x2", "0x3") for v in ("0x2", "0x3")),
+            "(func: has(name)) @cascade @normalize { friend { n: name age } }": '{"n":"Bob"}',
+            "(func: has(name)) @normalize { n: count(uid) c: count(friend) nope: nope }": '{"c":2},{"c":1},{"c":0}',
+            "(func: has(name), orderasc: age) @normalize { boss { b: name count(uid) } friend (first: -1) { n: name } }":
+                '{"b":"Ann Lee","n":"ann"},{"n":"ann"}',
+        }.items():
+            self.assertEqual(self.shown(block), shown, block)
+
+    def test_what_is_too_large_is_never_made(self) -> None:
+        ring = "".join(f"<{hex(one)}> <friend> <{hex(other)}> . " for one in range(1, 31) for other in range(1, 31))
+        script = frames(f"alter\n    friend: [uid] .\nbegin 1\nmutate 1\n    {ring}\n")
+        braces = "{ friend " * 10 + "{ %s }" + " }" * 10
+        crossed = "{ x: friend { a: uid } y: friend { b: uid } z: friend { c: uid } w: friend { d: uid } v: friend { e: uid } }"
+        for query, reply in (
+            (f"{{ q(func: uid(0x1)) @cascade {braces % 'nope'} }}", b'ok query 1 17\n{"data":{"q":[]}}\n'),
+            (f"{{ q(func: uid(0x1)) @cascade {braces % 'uid'} }}", b"error 17 AnswerTooLarge\n"),
+            (f"{{ q(func: uid(0x1)) @normalize {braces % 'u: uid'} }}", b"error 17 AnswerTooLarge\n"),
+            (f"{{ q(func: uid(0x1)) @normalize {crossed} }}", b"error 17 AnswerTooLarge\n"),
+        ):
+            body = query.encode()
+            self.assertEqual(plain.run(script + b"query 1 %d\n%s\n" % (len(body), body)).replies[-1], reply, query)
+
     def test_lists(self) -> None:
         for arguments, nodes in {
             "orderasc: age": [2, 1, 3],
@@ -158,7 +219,7 @@ class Answers(unittest.TestCase):
             self.assertEqual(inner, f"error 11 BadPage {word}")
 
     def test_forms_that_arent_built(self) -> None:
-        for form in ("{ x as age }", "{ val(x) }", "@cascade { name }", "{ friend @cascade { name } }", "@normalize { n: name }",
+        for form in ("{ x as age }", "{ val(x) }", "@cascade { val(x) }", "{ friend @cascade { x as name } }", "@normalize { n: val(x) }",
                      "@recurse(depth: 2) { name }", "@filter(uid(x)) { uid }", "@filter(uid_in(boss, x)) { uid }"):
             self.assertEqual(self.reply(f"{{ q(func: has(name)) {form} }}"), "error 98 Unbuilt", form)
         for query in ("{ q() {} }", "{ x as q(func: has(name)) {} }", "{ q(func: has(name), orderasc: val(x)) {} }"):

@@ -3,6 +3,7 @@
 from __future__ import annotations
 
 import io
+import json
 import re
 import subprocess
 import sys
@@ -114,6 +115,21 @@ class Reach(unittest.TestCase):
         wanted = {f"{place} {word}" for place in ("root", "tested") for word in FUNCTIONS} - {"root uid_in"}
         self.assertEqual(set(asked), wanted)
         self.assertGreater(shown, 100)
+
+    def test_cascades_and_flat_objects_are_shown(self) -> None:
+        shown: Counter[str] = Counter()
+        for number in range(200):
+            done = plain.run(scripts.script(number))
+            for request, reply in zip(done.requests, done.replies):
+                if request.verb != "query" or not reply.startswith(b"ok "):
+                    continue
+                data = json.loads(reply.split(b"\n", 1)[1])["data"]
+                for block in read_query(request.body.decode()):
+                    if data.get(block.name):
+                        shown.update(directive.word for directive in block.directives)
+                        shown["below"] += request.body.count(b"@cascade {")
+        for word in ("cascade", "normalize", "below"):
+            self.assertGreater(shown[word], 20, shown)
 
     def test_many_sessions_write_the_same_nodes(self) -> None:
         done = plain.run(scripts.script(0))

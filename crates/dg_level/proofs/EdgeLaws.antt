@@ -1,5 +1,5 @@
 -- What an edge shows: values, or nodes of the level below.
-use Rattle.std.proofs.Common.{◌≡◌, ℕ, true, false, List, [], ◌∷◌, flat_map, refl, sym, ap, ◌∙◌, true≢false}
+use Rattle.std.proofs.Common.{◌≡◌, ℕ, Bool, true, false, List, [], ◌∷◌, flat_map, refl, sym, ap, ◌∙◌, true≢false}
 use Rattle.dg_schema.specs.declared.definition.PredDef.{PredDef}
 use Rattle.dg_schema.specs.Definitions.{definition_of}
 use Rattle.dg_graph.specs.declared.change.Triple.{Triple}
@@ -22,7 +22,7 @@ use Rattle.dg_level.specs.Shown.{sort_of, as_array, first_tree, edge_shown}
 use Rattle.dg_level.specs.Planned.{is_single, planned_at}
 use Rattle.dg_level.specs.Keys.{all_count_keys}
 use Rattle.dg_level.specs.Columns.{FieldsOf, sort_below}
-use Rattle.dg_level.specs.Levels.{list_of, below_trees, leads_to_nodes, own_shown, bare_trees, kept_trees}
+use Rattle.dg_level.specs.Levels.{left_of, below_trees, leads_to_nodes, own_shown, bare_trees, kept_trees}
 use Rattle.dg_level.proofs.PlannedLaws.{all_counts}
 
 abbrev none_at : ℕ → List Tree
@@ -50,38 +50,38 @@ nodes_are sorts.Values values counts at list e = absurd (true≢false (sym e))
 nodes_are sorts.Node values counts at list e = refl
 nodes_are sorts.Nodes values counts at list e = refl
 
-module _ (schema : List PredDef) (graph : List Triple) (vars : List Variable) (e : QEdge) (args : List QArg) where
+module _ (schema : List PredDef) (graph : List Triple) (vars : List Variable) (e : QEdge) (args : List QArg) (cascade : Bool) where
   -- without braces only values are shown
-  pub bare_is : (k : Item-F Item Kept) (n : ℕ) → kept_trees schema graph vars e args [] k n ≡ bare_trees schema graph e k n
+  pub bare_is : (k : Item-F Item Kept) (n : ℕ) → kept_trees schema graph vars e args [] cascade k n ≡ bare_trees schema graph e k n
   bare_is Item-F.Plain n = refl
   bare_is (Item-F.Val place) n = refl
   bare_is (Item-F.Edge orders filters inner) n =
-      bare_shown (sort_of (definition_of schema e.pred) e.back) (shown (definition_of schema e.pred) (objects graph e.pred n)) (list_of graph vars e args orders filters (is_single (sort_of (definition_of schema e.pred) e.back)) n)
+      bare_shown (sort_of (definition_of schema e.pred) e.back) (shown (definition_of schema e.pred) (objects graph e.pred n)) (left_of schema graph vars e args orders filters [] inner (is_single (sort_of (definition_of schema e.pred) e.back)) cascade n)
 
-  module _ (braces : List QField) (k : Item) where
-    -- what isn't kept as an edge shows nothing
-    pub plain_is : k ≡ kept.Plain → (n : ℕ) → kept_trees schema graph vars e args braces (out-Item k) n ≡ []
-    plain_is is n = λ i. kept_trees schema graph vars e args braces ((ap out-Item is ∙ kept.outs-Plain) i) n
+  module _ (braces : List QField) (k : Item) (orders : List OrderKey) (filters : List Filter) (inner : List Kept) (is : k ≡ kept.Edge orders filters inner) where
+    abbrev left_here : ℕ → List ℕ
+    left_here = left_of schema graph vars e args orders filters braces inner (is_single (sort_of (definition_of schema e.pred) e.back)) cascade
 
-    pub val_is : (place : ℕ) → k ≡ kept.Val place → (n : ℕ) → kept_trees schema graph vars e args braces (out-Item k) n ≡ []
-    val_is place is n = λ i. kept_trees schema graph vars e args braces ((ap out-Item is ∙ kept.outs-Val place) i) n
+    layer : out-Item k ≡ Item-F.Edge orders filters inner
+    layer = ap out-Item is ∙ kept.outs-Edge orders filters inner
 
-    module _ (orders : List OrderKey) (filters : List Filter) (inner : List Kept) (is : k ≡ kept.Edge orders filters inner) where
-      layer : out-Item k ≡ Item-F.Edge orders filters inner
-      layer = ap out-Item is ∙ kept.outs-Edge orders filters inner
+    -- the keys under which numbers are asked for stand in the text
+    counted : (n : ℕ) → kept_trees schema graph vars e args braces cascade (out-Item k) n
+        ≡ edge_shown (sort_of (definition_of schema e.pred) e.back) (shown (definition_of schema e.pred) (objects graph e.pred n)) (all_count_keys braces) (planned_at schema graph vars cascade braces inner) (left_here n)
+    counted n =
+        (λ i. kept_trees schema graph vars e args braces cascade (layer i) n)
+        ∙ ap (λ counts. edge_shown (sort_of (definition_of schema e.pred) e.back) (shown (definition_of schema e.pred) (objects graph e.pred n)) counts (planned_at schema graph vars cascade braces inner) (left_here n)) (all_counts schema graph vars braces)
 
-      -- an edge to values
-      pub own_trees : (n : ℕ) → leads_to_nodes (sort_of (definition_of schema e.pred) e.back) ≡ false
-          → kept_trees schema graph vars e args braces (out-Item k) n ≡ own_shown (sort_of (definition_of schema e.pred) e.back) (shown (definition_of schema e.pred) (objects graph e.pred n))
-      own_trees n none =
-          (λ i. kept_trees schema graph vars e args braces (layer i) n)
-          ∙ ap (λ counts. edge_shown (sort_of (definition_of schema e.pred) e.back) (shown (definition_of schema e.pred) (objects graph e.pred n)) counts (planned_at schema graph vars braces inner) (list_of graph vars e args orders filters (is_single (sort_of (definition_of schema e.pred) e.back)) n)) (all_counts schema graph vars braces)
-          ∙ own_is (sort_of (definition_of schema e.pred) e.back) (shown (definition_of schema e.pred) (objects graph e.pred n)) (all_count_keys braces) (planned_at schema graph vars braces inner) (list_of graph vars e args orders filters (is_single (sort_of (definition_of schema e.pred) e.back)) n) none
+    -- an edge to values
+    pub own_trees : (n : ℕ) → leads_to_nodes (sort_of (definition_of schema e.pred) e.back) ≡ false
+        → kept_trees schema graph vars e args braces cascade (out-Item k) n ≡ own_shown (sort_of (definition_of schema e.pred) e.back) (shown (definition_of schema e.pred) (objects graph e.pred n))
+    own_trees n none =
+        counted n
+        ∙ own_is (sort_of (definition_of schema e.pred) e.back) (shown (definition_of schema e.pred) (objects graph e.pred n)) (all_count_keys braces) (planned_at schema graph vars cascade braces inner) (left_here n) none
 
-      -- an edge to nodes
-      pub nodes_trees : (n : ℕ) → leads_to_nodes (sort_of (definition_of schema e.pred) e.back) ≡ true
-          → kept_trees schema graph vars e args braces (out-Item k) n ≡ below_trees schema graph vars e args orders filters braces inner (is_single (sort_of (definition_of schema e.pred) e.back)) n
-      nodes_trees n some =
-          (λ i. kept_trees schema graph vars e args braces (layer i) n)
-          ∙ ap (λ counts. edge_shown (sort_of (definition_of schema e.pred) e.back) (shown (definition_of schema e.pred) (objects graph e.pred n)) counts (planned_at schema graph vars braces inner) (list_of graph vars e args orders filters (is_single (sort_of (definition_of schema e.pred) e.back)) n)) (all_counts schema graph vars braces)
-          ∙ nodes_are (sort_of (definition_of schema e.pred) e.back) (shown (definition_of schema e.pred) (objects graph e.pred n)) (all_count_keys braces) (planned_at schema graph vars braces inner) (list_of graph vars e args orders filters (is_single (sort_of (definition_of schema e.pred) e.back)) n) some
+    -- an edge to nodes
+    pub nodes_trees : (n : ℕ) → leads_to_nodes (sort_of (definition_of schema e.pred) e.back) ≡ true
+        → kept_trees schema graph vars e args braces cascade (out-Item k) n ≡ below_trees schema graph vars e args orders filters braces inner (is_single (sort_of (definition_of schema e.pred) e.back)) cascade n
+    nodes_trees n some =
+        counted n
+        ∙ nodes_are (sort_of (definition_of schema e.pred) e.back) (shown (definition_of schema e.pred) (objects graph e.pred n)) (all_count_keys braces) (planned_at schema graph vars cascade braces inner) (left_here n) some

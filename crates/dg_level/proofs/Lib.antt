@@ -12,8 +12,16 @@ pub mod WritingLaws
 pub mod ColumnLaws
 pub mod EdgeLaws
 pub mod ShortLaws
+pub mod WholeLaws
 pub mod TextLaws
 pub mod MeaningLaws
 pub mod BlockLaws
 pub mod BlockMeanings
 pub mod RunLaws
+pub mod FlatLaws
+pub mod FlatCounts
+pub mod FlatTurns
+pub mod FlatSums
+pub mod FlatPlans
+pub mod FlatTexts
+pub mod FlatArrays

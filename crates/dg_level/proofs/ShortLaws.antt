@@ -25,7 +25,8 @@ use Rattle.dg_level.specs.Planned.{is_single as is_one}
 
 -- ---- lists don't get longer
 
-filter_short : {X : Type 0} (f : X → Bool) (xs : List X) → length (filter f xs) ≤ length xs
+-- those that pass are no more
+pub filter_short : {X : Type 0} (f : X → Bool) (xs : List X) → length (filter f xs) ≤ length xs
 filter_short f [] = omega arith
 filter_short f (x ∷ xs) = by (f x) (filter_short f xs)
   where

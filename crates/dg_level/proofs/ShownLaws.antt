@@ -15,11 +15,12 @@ use Rattle.dg_tree.specs.declared.tree.Field.{Field}
 use Rattle.dg_tree.specs.Texts.{key_text, text_of_tree, text_of_field, tree_text, field_text}
 use Rattle.dg_level.specs.declared.column.Below.{Below}
 use Rattle.dg_level.specs.Rows.{total, row_text, braced, objects_of, shown_array, array_of, AreOfLevel}
-use Rattle.dg_level.specs.Shown.{under, node_of, number_under, list_shown, as_array, first_tree, as_single, edge_shown}
+use Rattle.dg_level.specs.Shown.{under, node_of, number_under, list_shown, as_array, first_tree, as_single, edge_shown, remaining}
 use Rattle.dg_level.specs.Planned.{cut_to}
 use Rattle.dg_level.specs.Columns.{FieldsOf, TreesOf, number_object, is_alone, sort_below, IsBelow, bytes_of}
 use Rattle.dg_level.proofs.RowLaws.{text_of, total_first, node_text, array_of_trees, object_first, shown_within, rows_within, level_within}
 use Rattle.dg_level.proofs.ListLaws.{map_twice, map_same, ascending_has}
+use Rattle.dg_level.proofs.ShortLaws.{filter_short}
 
 -- trees under a key, behind its text
 pub texts_under : (name : List ℕ) (shown : List Tree) → map field_text (map (under name) shown) ≡ map (λ text. key_text name ++ text) (map tree_text shown)
@@ -176,6 +177,11 @@ pub cut_short : (single : Bool) (nodes : List ℕ) → single ≡ true → lengt
 cut_short false nodes e = absurd (true≢false (sym e))
 cut_short true [] e = omega arith
 cut_short true (n ∷ nodes) e = omega arith
+
+-- also where some are dropped
+pub left_short : (cascade single : Bool) (whole : ℕ → Bool) (nodes : List ℕ) → single ≡ true → length (remaining cascade whole (cut_to single nodes)) ≤ 1
+left_short true single whole nodes e = omega (arith, filter_short whole (cut_to single nodes), cut_short single nodes e)
+left_short false single whole nodes e = cut_short single nodes e
 
 -- ---- where a node is shown by itself, and where it isn't
 

@@ -1,7 +1,6 @@
 -- What fields show by their text, item by item.
-use Rattle.std.proofs.Common.{◌≡◌, ℕ, List, [], ◌∷◌, ◌++◌, map, refl, sym, ap, ◌∙◌}
-use Rattle.std.specs.Prelude.{pos, Option, Some, None, unwrap_or, if◌then◌else◌, option_to_list}
-use Rattle.dg_text.specs.Spelling.{uid_text}
+use Rattle.std.proofs.Common.{◌≡◌, ℕ, Bool, List, [], ◌∷◌, ◌++◌, map, refl, sym, ap, ◌∙◌}
+use Rattle.std.specs.Prelude.{Option, Some, None, is_some, unwrap_or, if◌then◌else◌}
 use Rattle.dg_schema.specs.declared.definition.PredDef.{PredDef}
 use Rattle.dg_schema.specs.Definitions.{definition_of}
 use Rattle.dg_graph.specs.declared.change.Triple.{Triple}
@@ -18,15 +17,12 @@ use Rattle.dg_parse.specs.declared.query.QItem.TheViews.{out-QItem}
 use Rattle.dg_parse.specs.Keys.{shown_key, item_key, key_of}
 use Rattle.dg_check.specs.declared.vars.Variable.{Variable}
 use Rattle.dg_check.specs.Parts.{in_braces}
-use Rattle.dg_check.specs.Plans.{place_of}
 use Rattle.dg_check.specs.Variables.{Definition}
-use Rattle.dg_check.specs.Vars.{value_at}
-use Rattle.dg_funcs.specs.Truth.{count_along}
 use Rattle.dg_tree.specs.declared.tree.Tree.{Tree}
-use Rattle.dg_tree.specs.declared.tree.Tree.TheVariants as trees
-use Rattle.dg_level.specs.Answers.{value_tree, shown}
+use Rattle.dg_tree.specs.declared.tree.Field.{Field}
+use Rattle.dg_level.specs.Answers.{shown}
 use Rattle.dg_level.specs.Lists.{children}
-use Rattle.dg_level.specs.Shown.{sort_of, under, edge_shown, ShownItem, ShownField, counts_of, is_count, step_of_item, step_of_field, shown_field, fields_at}
+use Rattle.dg_level.specs.Shown.{sort_of, under, edge_shown, cascades, remaining, edge_there, edge_flats, behind, ShownItem, ShownField, counts_of, is_count, step_of_item, step_of_field, shown_field, fields_at, whole_at, objects_at}
 use Rattle.dg_level.specs.Keys.{count_keys, all_count_keys}
 
 module _ (schema : List PredDef) (graph : List Triple) (ds : List Definition) (vars : List Variable) where
@@ -34,26 +30,33 @@ module _ (schema : List PredDef) (graph : List Triple) (ds : List Definition) (v
   abbrev pub shown_item : QItem → ShownItem
   shown_item = fold-QItem ShownItem ShownField (step_of_item schema graph ds vars) step_of_field
 
-  -- ---- items
+  -- ---- items, by their steps
 
-  pub text_uid : (n : ℕ) → (shown_item items.Uid).at n ≡ trees.Text (uid_text n) ∷ []
-  text_uid n = ap (λ i. (shown_item i).at n) (sym items.rolls-Uid) ∙ ap (λ (p : ShownItem). p.at n) (fold-roll-QItem ShownItem ShownField (step_of_item schema graph ds vars) step_of_field QItem-F.Uid)
+  pub said_uid : shown_item items.Uid ≡ step_of_item schema graph ds vars QItem-F.Uid
+  said_uid = ap (λ i. shown_item i) (sym items.rolls-Uid) ∙ fold-roll-QItem ShownItem ShownField (step_of_item schema graph ds vars) step_of_field QItem-F.Uid
 
-  pub text_count_uid : (n : ℕ) → (shown_item items.CountUid).at n ≡ []
-  text_count_uid n =
-      ap (λ i. (shown_item i).at n) (sym items.rolls-CountUid) ∙ ap (λ (p : ShownItem). p.at n) (fold-roll-QItem ShownItem ShownField (step_of_item schema graph ds vars) step_of_field QItem-F.CountUid)
+  pub said_count_uid : shown_item items.CountUid ≡ step_of_item schema graph ds vars QItem-F.CountUid
+  said_count_uid = ap (λ i. shown_item i) (sym items.rolls-CountUid) ∙ fold-roll-QItem ShownItem ShownField (step_of_item schema graph ds vars) step_of_field QItem-F.CountUid
 
-  pub text_count : (e : QEdge) (n : ℕ) → (shown_item (items.Count e)).at n ≡ trees.Int (pos (count_along graph e n)) ∷ []
-  text_count e n =
-      ap (λ i. (shown_item i).at n) (sym (items.rolls-Count e)) ∙ ap (λ (p : ShownItem). p.at n) (fold-roll-QItem ShownItem ShownField (step_of_item schema graph ds vars) step_of_field (QItem-F.Count e))
+  pub said_count : (e : QEdge) → shown_item (items.Count e) ≡ step_of_item schema graph ds vars (QItem-F.Count e)
+  said_count e = ap (λ i. shown_item i) (sym (items.rolls-Count e)) ∙ fold-roll-QItem ShownItem ShownField (step_of_item schema graph ds vars) step_of_field (QItem-F.Count e)
 
-  pub text_val : (x : List ℕ) (n : ℕ) → (shown_item (items.Val x)).at n ≡ map value_tree (option_to_list (value_at vars (place_of ds x) n))
-  text_val x n =
-      ap (λ i. (shown_item i).at n) (sym (items.rolls-Val x)) ∙ ap (λ (p : ShownItem). p.at n) (fold-roll-QItem ShownItem ShownField (step_of_item schema graph ds vars) step_of_field (QItem-F.Val x))
+  pub said_val : (x : List ℕ) → shown_item (items.Val x) ≡ step_of_item schema graph ds vars (QItem-F.Val x)
+  said_val x = ap (λ i. shown_item i) (sym (items.rolls-Val x)) ∙ fold-roll-QItem ShownItem ShownField (step_of_item schema graph ds vars) step_of_field (QItem-F.Val x)
 
-  pub text_agg : (op : AggOp) (x : List ℕ) (n : ℕ) → (shown_item (items.Agg op x)).at n ≡ []
-  text_agg op x n =
-      ap (λ i. (shown_item i).at n) (sym (items.rolls-Agg op x)) ∙ ap (λ (p : ShownItem). p.at n) (fold-roll-QItem ShownItem ShownField (step_of_item schema graph ds vars) step_of_field (QItem-F.Agg op x))
+  pub said_agg : (op : AggOp) (x : List ℕ) → shown_item (items.Agg op x) ≡ step_of_item schema graph ds vars (QItem-F.Agg op x)
+  said_agg op x = ap (λ i. shown_item i) (sym (items.rolls-Agg op x)) ∙ fold-roll-QItem ShownItem ShownField (step_of_item schema graph ds vars) step_of_field (QItem-F.Agg op x)
+
+  said_edge : (e : QEdge) (args : List QArg) (dirs : List QDir) (braces : List QField)
+      → shown_item (items.Edge e args dirs (Some braces)) ≡ step_of_item schema graph ds vars (QItem-F.Edge e args dirs (Some (map (shown_field schema graph ds vars) braces)))
+  said_edge e args dirs braces =
+      ap (λ i. shown_item i) (sym (items.rolls-Edge e args dirs (Some braces)))
+      ∙ fold-roll-QItem ShownItem ShownField (step_of_item schema graph ds vars) step_of_field (QItem-F.Edge e args dirs (Some braces))
+
+  said_bare : (e : QEdge) (args : List QArg) (dirs : List QDir) → shown_item (items.Edge e args dirs None) ≡ step_of_item schema graph ds vars (QItem-F.Edge e args dirs None)
+  said_bare e args dirs =
+      ap (λ i. shown_item i) (sym (items.rolls-Edge e args dirs None))
+      ∙ fold-roll-QItem ShownItem ShownField (step_of_item schema graph ds vars) step_of_field (QItem-F.Edge e args dirs None)
 
   -- ---- keys
 
@@ -80,10 +83,21 @@ module _ (schema : List PredDef) (graph : List Triple) (ds : List Definition) (v
   asks_is q = ap (λ (p : ShownItem). p.counts) (fold_out-QItem ShownItem ShownField (step_of_item schema graph ds vars) step_of_field q) ∙ count_layer (out-QItem q)
 
   -- a field shows the trees of its item under its key
-  pub text_field : (q : QField) (n : ℕ) → (shown_field schema graph ds vars q).at n ≡ map (under (key_of q)) ((shown_item q.item).at n)
-  text_field q n =
-      ap (λ (p : ShownField). p.at n) (fold_out-QField ShownItem ShownField (step_of_item schema graph ds vars) step_of_field q)
-      ∙ ap (λ key. map (under (unwrap_or q.alias key)) ((shown_item q.item).at n)) (key_is q.item)
+  pub text_field : (q : QField) (cascade : Bool) (n : ℕ) → (shown_field schema graph ds vars q).at cascade n ≡ map (under (key_of q)) ((shown_item q.item).at cascade n)
+  text_field q cascade n =
+      ap (λ (p : ShownField). p.at cascade n) (fold_out-QField ShownItem ShownField (step_of_item schema graph ds vars) step_of_field q)
+      ∙ ap (λ key. map (under (unwrap_or q.alias key)) ((shown_item q.item).at cascade n)) (key_is q.item)
+
+  -- it is missing where its item is
+  pub text_there : (q : QField) (n : ℕ) → (shown_field schema graph ds vars q).there n ≡ (shown_item q.item).there n
+  text_there q n = ap (λ (p : ShownField). p.there n) (fold_out-QField ShownItem ShownField (step_of_item schema graph ds vars) step_of_field q)
+
+  -- the flat objects behind it
+  pub text_after : (q : QField) (cascade : Bool) (n : ℕ) (objects : List (List Field)) → (shown_field schema graph ds vars q).after cascade n objects
+      ≡ behind (is_some q.alias) (map (under (key_of q)) ((shown_item q.item).at cascade n)) ((shown_item q.item).flats cascade n) objects
+  text_after q cascade n objects =
+      ap (λ (p : ShownField). p.after cascade n objects) (fold_out-QField ShownItem ShownField (step_of_item schema graph ds vars) step_of_field q)
+      ∙ ap (λ key. behind (is_some q.alias) (map (under (unwrap_or q.alias key)) ((shown_item q.item).at cascade n)) ((shown_item q.item).flats cascade n) objects) (key_is q.item)
 
   counts_is : (q : QField) → (shown_field schema graph ds vars q).counts ≡ count_keys q
   counts_is q =
@@ -94,26 +108,37 @@ module _ (schema : List PredDef) (graph : List Triple) (ds : List Definition) (v
   text_counts [] = refl
   text_counts (q ∷ fields) = λ i. counts_is q i ++ text_counts fields i
 
-  -- ---- edges
+  -- ---- edges, by what stands in their braces
 
   module _ (e : QEdge) (args : List QArg) (dirs : List QDir) (n : ℕ) where
-    abbrev so_shown : List QField → List Tree
-    so_shown braces =
-        edge_shown (sort_of (definition_of schema e.pred) e.back) (shown (definition_of schema e.pred) (objects graph e.pred n)) (all_count_keys braces) (fields_at schema graph ds vars braces) (children graph ds vars e args dirs n)
+    -- where they aren't missing
+    pub edge_there_is : (braces : Option (List QField)) → (shown_item (items.Edge e args dirs braces)).there n
+        ≡ edge_there (sort_of (definition_of schema e.pred) e.back) (shown (definition_of schema e.pred) (objects graph e.pred n)) (whole_at schema graph ds vars (in_braces braces)) (children graph ds vars e args dirs n)
+    edge_there_is None = ap (λ (p : ShownItem). p.there n) (said_bare e args dirs)
+    edge_there_is (Some braces) = ap (λ (p : ShownItem). p.there n) (said_edge e args dirs braces)
 
-    with_counts : (braces : List QField)
-        → edge_shown (sort_of (definition_of schema e.pred) e.back) (shown (definition_of schema e.pred) (objects graph e.pred n)) (counts_of (map (shown_field schema graph ds vars) braces)) (fields_at schema graph ds vars braces) (children graph ds vars e args dirs n)
-        ≡ so_shown braces
-    with_counts braces =
-        ap (λ counts. edge_shown (sort_of (definition_of schema e.pred) e.back) (shown (definition_of schema e.pred) (objects graph e.pred n)) counts (fields_at schema graph ds vars braces) (children graph ds vars e args dirs n)) (text_counts braces)
+    module _ (cascade : Bool) where
+      -- the nodes that remain
+      abbrev pub so_left : List QField → List ℕ
+      so_left braces = remaining (cascades cascade dirs) (whole_at schema graph ds vars braces) (children graph ds vars e args dirs n)
 
-    -- an edge, by what stands in its braces
-    pub text_edge : (braces : Option (List QField)) → (shown_item (items.Edge e args dirs braces)).at n ≡ so_shown (in_braces braces)
-    text_edge None =
-        ap (λ i. (shown_item i).at n) (sym (items.rolls-Edge e args dirs None))
-        ∙ ap (λ (p : ShownItem). p.at n) (fold-roll-QItem ShownItem ShownField (step_of_item schema graph ds vars) step_of_field (QItem-F.Edge e args dirs None))
-        ∙ with_counts []
-    text_edge (Some braces) =
-        ap (λ i. (shown_item i).at n) (sym (items.rolls-Edge e args dirs (Some braces)))
-        ∙ ap (λ (p : ShownItem). p.at n) (fold-roll-QItem ShownItem ShownField (step_of_item schema graph ds vars) step_of_field (QItem-F.Edge e args dirs (Some braces)))
-        ∙ with_counts braces
+      abbrev so_shown : List QField → List Tree
+      so_shown braces =
+          edge_shown (sort_of (definition_of schema e.pred) e.back) (shown (definition_of schema e.pred) (objects graph e.pred n)) (all_count_keys braces) (fields_at schema graph ds vars (cascades cascade dirs) braces) (so_left braces)
+
+      with_counts : (braces : List QField)
+          → edge_shown (sort_of (definition_of schema e.pred) e.back) (shown (definition_of schema e.pred) (objects graph e.pred n)) (counts_of (map (shown_field schema graph ds vars) braces)) (fields_at schema graph ds vars (cascades cascade dirs) braces) (so_left braces)
+          ≡ so_shown braces
+      with_counts braces =
+          ap (λ counts. edge_shown (sort_of (definition_of schema e.pred) e.back) (shown (definition_of schema e.pred) (objects graph e.pred n)) counts (fields_at schema graph ds vars (cascades cascade dirs) braces) (so_left braces)) (text_counts braces)
+
+      -- what they show
+      pub text_edge : (braces : Option (List QField)) → (shown_item (items.Edge e args dirs braces)).at cascade n ≡ so_shown (in_braces braces)
+      text_edge None = ap (λ (p : ShownItem). p.at cascade n) (said_bare e args dirs) ∙ with_counts []
+      text_edge (Some braces) = ap (λ (p : ShownItem). p.at cascade n) (said_edge e args dirs braces) ∙ with_counts braces
+
+      -- the flat objects of their nodes
+      pub edge_flats_are : (braces : Option (List QField)) → (shown_item (items.Edge e args dirs braces)).flats cascade n
+          ≡ edge_flats (sort_of (definition_of schema e.pred) e.back) (objects_at schema graph ds vars (cascades cascade dirs) (in_braces braces)) (so_left (in_braces braces))
+      edge_flats_are None = ap (λ (p : ShownItem). p.flats cascade n) (said_bare e args dirs)
+      edge_flats_are (Some braces) = ap (λ (p : ShownItem). p.flats cascade n) (said_edge e args dirs braces)

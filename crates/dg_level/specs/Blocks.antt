@@ -1,9 +1,12 @@
 -- What a query answers, by its text.
-use Rattle.std.specs.Prelude.{ℕ, false, Bool, if◌then◌else◌, List, [], ◌∷◌, Option, Some, None, flat_map, codes}
+use Rattle.std.specs.Prelude.{ℕ, true, false, Bool, if◌then◌else◌, List, [], ◌∷◌, Option, Some, None, map, flat_map, codes}
+use Rattle.std.specs.List.{list_any}
 use Rattle.std.specs.Str.{bytes_eq}
 use Rattle.dg_schema.specs.declared.definition.PredDef.{PredDef}
 use Rattle.dg_graph.specs.declared.change.Triple.{Triple}
 use Rattle.dg_parse.specs.declared.query.QBlock.{QBlock}
+use Rattle.dg_parse.specs.declared.query.QDir.{QDir}
+use Rattle.dg_parse.specs.declared.query.QDir.TheVariants as dirs
 use Rattle.dg_parse.specs.declared.query.QFunc.{QFunc}
 use Rattle.dg_parse.specs.declared.query.Query.{Query}
 use Rattle.dg_check.specs.declared.vars.Variable.{Variable}
@@ -15,7 +18,7 @@ use Rattle.dg_tree.specs.declared.tree.Tree.{Tree}
 use Rattle.dg_tree.specs.declared.tree.Tree.TheVariants as trees
 use Rattle.dg_tree.specs.declared.tree.Field.{Field}
 use Rattle.dg_level.specs.Lists.{keys_for, passed_all}
-use Rattle.dg_level.specs.Shown.{under, list_shown, counts_in, fields_at}
+use Rattle.dg_level.specs.Shown.{under, list_shown, cascades, remaining, counts_in, fields_at, whole_at, objects_at}
 
 -- ---- the nodes of a block
 
@@ -34,9 +37,28 @@ nodes_of_block graph ds vars block = page block.args (ordered (keys_for graph ds
 abbrev pub is_hidden : QBlock → Bool
 is_hidden block = bytes_eq block.name (codes "var")
 
+-- a directive that makes flat objects of nodes
+abbrev pub is_normalize : QDir → Bool
+is_normalize (dirs.Filter f) = false
+is_normalize dirs.Cascade = false
+is_normalize dirs.Normalize = true
+is_normalize (dirs.Recurse options) = false
+
+-- the nodes of a block's list that remain
+abbrev pub left_of_block : List PredDef → List Triple → List Definition → List Variable → QBlock → List ℕ → List ℕ
+left_of_block schema graph ds vars block nodes = remaining (cascades false block.dirs) (whole_at schema graph ds vars block.fields) nodes
+
+-- what the nodes of a list show as they are
+abbrev pub nested_shown : List PredDef → List Triple → List Definition → List Variable → QBlock → List ℕ → List Tree
+nested_shown schema graph ds vars block nodes = list_shown (counts_in schema graph ds vars block.fields) (fields_at schema graph ds vars (cascades false block.dirs) block.fields) nodes
+
+-- what they show as flat objects
+abbrev pub flat_shown : List PredDef → List Triple → List Definition → List Variable → QBlock → List ℕ → List Tree
+flat_shown schema graph ds vars block nodes = map trees.Node (flat_map (objects_at schema graph ds vars (cascades false block.dirs) block.fields) nodes)
+
 -- what the nodes of a list show: an array, also where nothing stands in it
 abbrev pub array_shown : List PredDef → List Triple → List Definition → List Variable → QBlock → List ℕ → Tree
-array_shown schema graph ds vars block nodes = trees.Array (list_shown (counts_in schema graph ds vars block.fields) (fields_at schema graph ds vars block.fields) nodes)
+array_shown schema graph ds vars block nodes = trees.Array (if list_any is_normalize block.dirs then flat_shown schema graph ds vars block nodes else nested_shown schema graph ds vars block nodes)
 
 -- the same under the block's name
 abbrev pub nodes_shown : List PredDef → List Triple → List Definition → List Variable → QBlock → List ℕ → Field
@@ -44,13 +66,13 @@ nodes_shown schema graph ds vars block nodes = under block.name (array_shown sch
 
 -- what a block shows
 abbrev pub block_shown : List PredDef → List Triple → List Definition → List Variable → QBlock → List Field
-block_shown schema graph ds vars block = if is_hidden block then [] else nodes_shown schema graph ds vars block (nodes_of_block graph ds vars block) ∷ []
+block_shown schema graph ds vars block = if is_hidden block then [] else nodes_shown schema graph ds vars block (left_of_block schema graph ds vars block (nodes_of_block graph ds vars block)) ∷ []
 
 -- what blocks show, in their order
 abbrev pub blocks_shown : List PredDef → List Triple → List Definition → List Variable → List QBlock → List Field
 blocks_shown schema graph ds vars blocks = flat_map (block_shown schema graph ds vars) blocks
 
 -- what a query answers: its blocks in the order of the text, without those that are hidden. It is for the queries that
--- `is_built` tells: no variable has a value, and directives are filters.
+-- `is_built` tells: no variable has a value, and nothing recurs.
 abbrev pub answer_of : List PredDef → List Triple → Query → List Field
 answer_of schema graph query = blocks_shown schema graph (definitions_in schema (places_of_query query)) [] query.blocks

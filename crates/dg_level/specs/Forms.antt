@@ -81,11 +81,11 @@ is_built_arg (arguments.After n) = true
 is_built_arg (arguments.Asc order) = is_built_order order
 is_built_arg (arguments.Desc order) = is_built_order order
 
--- a filter that names no variable
+-- any directive but a filter that names a variable, and recursion
 abbrev pub is_built_dir : QDir → Bool
 is_built_dir (dirs.Filter f) = is_closed_filter f
-is_built_dir dirs.Cascade = false
-is_built_dir dirs.Normalize = false
+is_built_dir dirs.Cascade = true
+is_built_dir dirs.Normalize = true
 is_built_dir (dirs.Recurse options) = false
 
 -- a list with such arguments and directives

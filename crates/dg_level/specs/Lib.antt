@@ -13,3 +13,5 @@ pub mod Rows
 pub mod Columns
 pub mod Keys
 pub mod Levels
+pub mod Flats
+pub mod FlatLevels

@@ -71,8 +71,8 @@ pub fn comma_behind(wrote: bool) -> &'static str
     if wrote { "," } else { "" }
 }
 
-// The beginning of an object, where another part stands before it or none.
-fn opening(wrote: bool) -> &'static str
+/// The beginning of an object, where another part stands before it or none.
+pub fn opening(wrote: bool) -> &'static str
     ensures { result.now ≡ comma_behind wrote ++ codes "{" }
 {
     if wrote { ",{" } else { "{" }

@@ -1,20 +1,22 @@
 // The list of a block, and the array of what its nodes show.
 ghost use Rattle.std.specs.Prelude.{◌≡◌, ◌<◌, ◌∷◌, [], List, length, IfOk, IsErrOf};
-ghost use Rattle.std.specs.Ordering.{nat_cmp};
-ghost use Rattle.dg_values.specs.Ascending.{ascending};
 ghost use Rattle.dg_graph.specs.Graphs.{IsLawful};
 ghost use Rattle.dg_check.specs.Parts.{IsBlockOf};
 ghost use Rattle.dg_check.specs.Variables.{Definition};
 ghost use Rattle.dg_funcs.specs.Laws.{AreOfKind};
 ghost use Rattle.dg_shape.specs.Orders.{ordered, page};
 ghost use Rattle.dg_tree.specs.Texts.{tree_text};
-ghost use Rattle.dg_level.specs.Blocks.{nodes_of_block, array_shown};
+ghost use Rattle.dg_tree.specs.declared.tree.Tree.TheVariants as trees;
+ghost use Rattle.dg_level.specs.Blocks.{nodes_of_block, left_of_block, nested_shown, array_shown};
 ghost use Rattle.dg_level.specs.Planned.{planned_keys};
 ghost use Rattle.dg_level.specs.PlannedBlocks.{planned_root, planned_nodes};
 
+use crate::directives::{cascades, normalizes};
+use crate::flat_arrays::flat_array;
 use crate::keys::counts_of;
 use crate::lists::passing_each;
 use crate::order_keys::{key_values, keys_over};
+use crate::whole::{left_list, level_of};
 use crate::writing::number_objects;
 use crate::{Rows, rows_of};
 use dg_check::{Func, OrderKey, Parts, Vars};
@@ -28,8 +30,8 @@ use dg_values::{Mem, OutOfMemory, Steps};
 use std::alloc::Global;
 use std::sync::ledger::Ledger;
 
-// The bytes that an answer may have.
-const MOST: usize = 16_777_216;
+/// The bytes that an answer may have.
+pub const MOST: usize = 16_777_216;
 
 // The nodes of a root, where there is one.
 fn nodes_of_root<S: Snapshot, L: Ledger>(
@@ -104,14 +106,70 @@ pub fn nodes_of<S: Snapshot, L: Ledger>(
     planned_nodes(alloc, snap, block.args.as_slice(), kept, vars, reads)
 }
 
-// The nodes of a list, as a set.
-fn level_of(alloc: Global, list: &[u64]) -> Mem<Uids>
-    ensures { IfOk result (λ uids. uids ≡ ascending nat_cmp list.now) }
+/// The nodes of a block's list that remain: where the block has a cascade, those at which none of its fields is missing. The error
+/// is want of memory.
+pub fn left_of<S: Snapshot, L: Ledger>(
+    alloc: Global,
+    snap: &S,
+    block: &QBlock,
+    kept: &Parts,
+    vars: &Vars,
+    list: Vec<u64>,
+    reads: &mut Steps<L>,
+) -> Mem<Vec<u64>>
+    ensures { (ds : List Definition) → IsLawful (S.declared snap.now) (S.graph snap.now) → AreOfKind ds vars.now.variables → IsBlockOf (S.declared snap.now) ds block.now kept.now
+        → IfOk result (λ left. left.items ≡ left_of_block (S.declared snap.now) (S.graph snap.now) ds vars.now.variables block.now list.items) }
 {
-    Ok(Uids::gathered(Vec::from_slice(alloc, list)?))
+    meanings();
+    left_list(
+        alloc,
+        snap,
+        cascades(false, block.dirs.as_slice()),
+        block.fields.as_slice(),
+        kept.fields.as_slice(),
+        list,
+        vars,
+        reads,
+    )
 }
 
-/// The array of what the nodes of a list show, as the one row. What a node shows is made once, in a level of all of them.
+// The array of what the nodes of a list show as they are. What a node shows is made once, in a level of all of them.
+fn nested_array<S: Snapshot, L: Ledger>(
+    alloc: Global,
+    snap: &S,
+    block: &QBlock,
+    kept: &Parts,
+    vars: &Vars,
+    list: &[u64],
+    reads: &mut Steps<L>,
+) -> Result<Rows, TreeFault>
+    ensures ok { (ds : List Definition) → IsLawful (S.declared snap.now) (S.graph snap.now) → AreOfKind ds vars.now.variables → IsBlockOf (S.declared snap.now) ds block.now kept.now
+        → IfOk result (λ rows. rows.rows ≡ tree_text (trees.Array (nested_shown (S.declared snap.now) (S.graph snap.now) ds vars.now.variables block.now list.now)) ∷ []) }
+    ensures too_large { (ds : List Definition) → IsLawful (S.declared snap.now) (S.graph snap.now) → AreOfKind ds vars.now.variables → IsBlockOf (S.declared snap.now) ds block.now kept.now
+        → IsErrOf result TreeFault.TooLarge → 16777216 < length (tree_text (trees.Array (nested_shown (S.declared snap.now) (S.graph snap.now) ds vars.now.variables block.now list.now))) }
+{
+    let fields = block.fields.as_slice();
+    let level = level_of(alloc, list)?;
+    let below = rows_of(
+        alloc,
+        snap,
+        MOST,
+        cascades(false, block.dirs.as_slice()),
+        fields,
+        kept.fields.as_slice(),
+        vars,
+        &level,
+        reads,
+    )?;
+    let counts = counts_of(alloc, fields)?;
+    let front = number_objects(alloc, list.len(), counts.as_slice())?;
+    let mut array = Rows::within(alloc, MOST);
+    array.array(front.as_slice(), list, &level, &below)?;
+    array.close()?;
+    Ok(array)
+}
+
+/// The array of what the nodes of a list show, as the one row: flat objects where the block is normalized.
 ///
 /// `TooLarge` comes only where the array has more than 16,777,216 bytes. The other error is want of memory.
 pub fn array_shown<S: Snapshot, L: Ledger>(
@@ -128,22 +186,8 @@ pub fn array_shown<S: Snapshot, L: Ledger>(
     ensures too_large { (ds : List Definition) → IsLawful (S.declared snap.now) (S.graph snap.now) → AreOfKind ds vars.now.variables → IsBlockOf (S.declared snap.now) ds block.now kept.now
         → IsErrOf result TreeFault.TooLarge → 16777216 < length (tree_text (array_shown (S.declared snap.now) (S.graph snap.now) ds vars.now.variables block.now list.now)) }
 {
-    let fields = block.fields.as_slice();
-    let level = level_of(alloc, list)?;
-    let below = rows_of(
-        alloc,
-        snap,
-        MOST,
-        fields,
-        kept.fields.as_slice(),
-        vars,
-        &level,
-        reads,
-    )?;
-    let counts = counts_of(alloc, fields)?;
-    let front = number_objects(alloc, list.len(), counts.as_slice())?;
-    let mut array = Rows::within(alloc, MOST);
-    array.array(front.as_slice(), list, &level, &below)?;
-    array.close()?;
-    Ok(array)
+    if normalizes(block.dirs.as_slice()) {
+        return flat_array(alloc, snap, block, kept, vars, list, reads);
+    }
+    nested_array(alloc, snap, block, kept, vars, list, reads)
 }

@@ -12,9 +12,11 @@ ghost use Rattle.dg_level.specs.Levels.{trees_of, all_trees, all_fields, below_t
 
 use crate::Rows;
 use crate::column::{Below, Column, Content, held_by};
+use crate::directives::cascades;
 use crate::keys::{counts_of, key_text};
 use crate::lists::{lists_of, nodes_below};
 use crate::sorts::{Sort, is_single, leads_to_nodes, sort_of};
+use crate::whole::left_lists;
 use crate::writing::written;
 use dg_check::{Field, Filter, Item, OrderKey, Vars};
 use dg_graph::Snapshot;
@@ -25,8 +27,8 @@ use dg_values::{Mem, OutOfMemory, Steps, Str};
 use std::alloc::Global;
 use std::sync::ledger::Ledger;
 
-// An equal edge.
-fn copy_edge(alloc: Global, edge: &QEdge) -> Mem<QEdge>
+/// An equal edge. The error is want of memory.
+pub fn copy_edge(alloc: Global, edge: &QEdge) -> Mem<QEdge>
     ensures { IfOk result (λ e. e ≡ edge.now) }
 {
     let pred = edge.pred.copy(alloc)?;
@@ -43,8 +45,8 @@ fn add(columns: &mut Vec<Column>, column: Column) -> Mem<()>
     Ok(columns.push(column)?)
 }
 
-// The values of a predicate, where an edge by it leads to values.
-fn values_content(
+/// The values of a predicate, where an edge by it leads to values. The error is want of memory.
+pub fn values_content(
     alloc: Global,
     sort: Sort,
     definition: Option<&PredDef>,
@@ -65,8 +67,8 @@ fn values_content(
     }
 }
 
-// What is shown under an edge without braces.
-fn bare_content<S: Snapshot>(alloc: Global, snap: &S, edge: &QEdge, kept: &Item) -> Mem<Content>
+/// What is shown under an edge without braces. The error is want of memory.
+pub fn bare_content<S: Snapshot>(alloc: Global, snap: &S, edge: &QEdge, kept: &Item) -> Mem<Content>
     ensures shows { (vars : Items Known) (nodes : Items ℕ) → IfOk result (λ c. ShowsBy (S.graph snap.now) vars nodes c (bare_trees (S.declared snap.now) (S.graph snap.now) edge.now (out-Item kept.now))) }
     ensures held { IfOk result (λ c. (held_by c ≡ 0) × (room_of c ≡ 0)) }
 {
@@ -80,8 +82,8 @@ fn bare_content<S: Snapshot>(alloc: Global, snap: &S, edge: &QEdge, kept: &Item)
     }
 }
 
-// The value of a variable, as it is kept.
-fn value_content(kept: &Item) -> Content
+/// The value of a variable, as it is kept.
+pub fn value_content(kept: &Item) -> Content
     ensures shows { (graph : Items Triple) (vars : Items Known) (nodes : Items ℕ) → ShowsBy graph vars nodes result (λ n. value_kept vars n (out-Item kept.now)) }
     ensures held { (held_by result ≡ 0) × (room_of result ≡ 0) }
 {
@@ -92,7 +94,8 @@ fn value_content(kept: &Item) -> Content
 }
 
 /// What the nodes of a level show, each in its own row. Each list is read once for each node of a level and each field, and
-/// the row of a node of the level below is made once, whatever number of nodes lead to it.
+/// the row of a node of the level below is made once, whatever number of nodes lead to it. Where a cascade goes on from above, or
+/// an edge begins one, lists lose the nodes at which a field is missing, before anything is made of these.
 ///
 /// # Errors
 ///
@@ -102,18 +105,21 @@ pub fn level_rows<S: Snapshot, L: Ledger>(
     alloc: Global,
     snap: &S,
     limit: usize,
+    cascade: bool,
     fields: &[QField],
     kept: &[Field],
     vars: &Vars,
     nodes: &[u64],
     reads: &mut Steps<L>,
 ) -> Result<Rows, TreeFault>
-    ensures rows { IfOk result (λ rows. rows.rows ≡ map (λ n. row_text (planned_at (S.declared snap.now) (S.graph snap.now) vars.now.variables fields.now kept.now n)) nodes.now) }
+    ensures rows { IfOk result (λ rows. rows.rows ≡ map (λ n. row_text (planned_at (S.declared snap.now) (S.graph snap.now) vars.now.variables cascade fields.now kept.now n)) nodes.now) }
     ensures limit { IfOk result (λ rows. rows.limit ≡ limit) }
     ensures begun { IfOk result (λ rows. rows.begun ≡ []) }
-    ensures too_large { IsErrOf result TreeFault.TooLarge → limit < total (map (λ n. row_text (planned_at (S.declared snap.now) (S.graph snap.now) vars.now.variables fields.now kept.now n)) nodes.now) }
+    ensures too_large { IsErrOf result TreeFault.TooLarge → limit < total (map (λ n. row_text (planned_at (S.declared snap.now) (S.graph snap.now) vars.now.variables cascade fields.now kept.now n)) nodes.now) }
 {
-    let columns = columns_of(alloc, snap, limit, fields, kept, vars, nodes, reads)?;
+    let columns = columns_of(
+        alloc, snap, limit, cascade, fields, kept, vars, nodes, reads,
+    )?;
     written(alloc, snap, limit, columns.as_slice(), vars, nodes, reads)
 }
 
@@ -123,14 +129,15 @@ fn columns_of<S: Snapshot, L: Ledger>(
     alloc: Global,
     snap: &S,
     limit: usize,
+    cascade: bool,
     fields: &[QField],
     kept: &[Field],
     vars: &Vars,
     nodes: &[u64],
     reads: &mut Steps<L>,
 ) -> Result<Vec<Column>, TreeFault>
-    ensures shown { IfOk result (λ columns. AreShown (S.graph snap.now) vars.now.variables nodes.now columns.items (all_fields (S.declared snap.now) (S.graph snap.now) vars.now.variables fields.now kept.now)) }
-    ensures too_large { IsErrOf result TreeFault.TooLarge → limit < all_bytes (all_trees (S.declared snap.now) (S.graph snap.now) vars.now.variables fields.now kept.now) nodes.now }
+    ensures shown { IfOk result (λ columns. AreShown (S.graph snap.now) vars.now.variables nodes.now columns.items (all_fields (S.declared snap.now) (S.graph snap.now) vars.now.variables cascade fields.now kept.now)) }
+    ensures too_large { IsErrOf result TreeFault.TooLarge → limit < all_bytes (all_trees (S.declared snap.now) (S.graph snap.now) vars.now.variables cascade fields.now kept.now) nodes.now }
 {
     let mut columns = Vec::new(alloc);
     let mut used = 0;
@@ -139,7 +146,17 @@ fn columns_of<S: Snapshot, L: Ledger>(
             return Ok(columns);
         }
         let part = &kept[place];
-        let column = column_of(alloc, snap, limit - used, field, part, vars, nodes, reads)?;
+        let column = column_of(
+            alloc,
+            snap,
+            limit - used,
+            cascade,
+            field,
+            part,
+            vars,
+            nodes,
+            reads,
+        )?;
         used += held_by(&column.content);
         add(&mut columns, column)?;
     }
@@ -152,22 +169,24 @@ fn column_of<S: Snapshot, L: Ledger>(
     alloc: Global,
     snap: &S,
     limit: usize,
+    cascade: bool,
     field: &QField,
     kept: &Field,
     vars: &Vars,
     nodes: &[u64],
     reads: &mut Steps<L>,
 ) -> Result<Column, TreeFault>
-    ensures shows { IfOk result (λ column. Shows (S.graph snap.now) vars.now.variables nodes.now column ((planned_field (S.declared snap.now) (S.graph snap.now) vars.now.variables field.now).at kept.now)) }
-    ensures held { IfOk result (λ column. held_by column.content ≤ bytes_of (trees_of (S.declared snap.now) (S.graph snap.now) vars.now.variables field.now.item kept.now.item) nodes.now) }
+    ensures shows { IfOk result (λ column. Shows (S.graph snap.now) vars.now.variables nodes.now column ((planned_field (S.declared snap.now) (S.graph snap.now) vars.now.variables field.now).at cascade kept.now)) }
+    ensures held { IfOk result (λ column. held_by column.content ≤ bytes_of (trees_of (S.declared snap.now) (S.graph snap.now) vars.now.variables cascade field.now.item kept.now.item) nodes.now) }
     ensures within { IfOk result (λ column. room_of column.content ≤ limit) }
-    ensures too_large { IsErrOf result TreeFault.TooLarge → limit < bytes_of (trees_of (S.declared snap.now) (S.graph snap.now) vars.now.variables field.now.item kept.now.item) nodes.now }
+    ensures too_large { IsErrOf result TreeFault.TooLarge → limit < bytes_of (trees_of (S.declared snap.now) (S.graph snap.now) vars.now.variables cascade field.now.item kept.now.item) nodes.now }
 {
     let key = key_text(alloc, field)?;
     let content = content_of(
         alloc,
         snap,
         limit,
+        cascade,
         &field.item,
         &kept.item,
         vars,
@@ -183,16 +202,17 @@ fn content_of<S: Snapshot, L: Ledger>(
     alloc: Global,
     snap: &S,
     limit: usize,
+    cascade: bool,
     item: &QItem,
     kept: &Item,
     vars: &Vars,
     nodes: &[u64],
     reads: &mut Steps<L>,
 ) -> Result<Content, TreeFault>
-    ensures shows { IfOk result (λ content. ShowsBy (S.graph snap.now) vars.now.variables nodes.now content (trees_of (S.declared snap.now) (S.graph snap.now) vars.now.variables item.now kept.now)) }
-    ensures held { IfOk result (λ content. held_by content ≤ bytes_of (trees_of (S.declared snap.now) (S.graph snap.now) vars.now.variables item.now kept.now) nodes.now) }
+    ensures shows { IfOk result (λ content. ShowsBy (S.graph snap.now) vars.now.variables nodes.now content (trees_of (S.declared snap.now) (S.graph snap.now) vars.now.variables cascade item.now kept.now)) }
+    ensures held { IfOk result (λ content. held_by content ≤ bytes_of (trees_of (S.declared snap.now) (S.graph snap.now) vars.now.variables cascade item.now kept.now) nodes.now) }
     ensures within { IfOk result (λ content. room_of content ≤ limit) }
-    ensures too_large { IsErrOf result TreeFault.TooLarge → limit < bytes_of (trees_of (S.declared snap.now) (S.graph snap.now) vars.now.variables item.now kept.now) nodes.now }
+    ensures too_large { IsErrOf result TreeFault.TooLarge → limit < bytes_of (trees_of (S.declared snap.now) (S.graph snap.now) vars.now.variables cascade item.now kept.now) nodes.now }
 {
     match item {
         QItem::Uid => Ok(Content::Uid),
@@ -202,14 +222,15 @@ fn content_of<S: Snapshot, L: Ledger>(
         QItem::Edge {
             edge,
             args,
+            dirs,
             fields,
-            ..
         } => match fields {
             None => Ok(bare_content(alloc, snap, edge, kept)?),
             Some(braces) => edge_content(
                 alloc,
                 snap,
                 limit,
+                cascades(cascade, dirs.as_slice()),
                 edge,
                 args.as_slice(),
                 braces.as_slice(),
@@ -222,12 +243,13 @@ fn content_of<S: Snapshot, L: Ledger>(
     }
 }
 
-// What is shown under an edge.
+// What is shown under an edge, of whose list a cascade drops nodes or doesn't.
 #[cycle(level)]
 fn edge_content<S: Snapshot, L: Ledger>(
     alloc: Global,
     snap: &S,
     limit: usize,
+    cascade: bool,
     edge: &QEdge,
     args: &[QArg],
     braces: &[QField],
@@ -236,10 +258,10 @@ fn edge_content<S: Snapshot, L: Ledger>(
     nodes: &[u64],
     reads: &mut Steps<L>,
 ) -> Result<Content, TreeFault>
-    ensures shows { IfOk result (λ content. ShowsBy (S.graph snap.now) vars.now.variables nodes.now content (kept_trees (S.declared snap.now) (S.graph snap.now) vars.now.variables edge.now args.now braces.now (out-Item kept.now))) }
-    ensures held { IfOk result (λ content. held_by content ≤ bytes_of (kept_trees (S.declared snap.now) (S.graph snap.now) vars.now.variables edge.now args.now braces.now (out-Item kept.now)) nodes.now) }
+    ensures shows { IfOk result (λ content. ShowsBy (S.graph snap.now) vars.now.variables nodes.now content (kept_trees (S.declared snap.now) (S.graph snap.now) vars.now.variables edge.now args.now braces.now cascade (out-Item kept.now))) }
+    ensures held { IfOk result (λ content. held_by content ≤ bytes_of (kept_trees (S.declared snap.now) (S.graph snap.now) vars.now.variables edge.now args.now braces.now cascade (out-Item kept.now)) nodes.now) }
     ensures within { IfOk result (λ content. room_of content ≤ limit) }
-    ensures too_large { IsErrOf result TreeFault.TooLarge → limit < bytes_of (kept_trees (S.declared snap.now) (S.graph snap.now) vars.now.variables edge.now args.now braces.now (out-Item kept.now)) nodes.now }
+    ensures too_large { IsErrOf result TreeFault.TooLarge → limit < bytes_of (kept_trees (S.declared snap.now) (S.graph snap.now) vars.now.variables edge.now args.now braces.now cascade (out-Item kept.now)) nodes.now }
 {
     let Item::Edge {
         orders,
@@ -258,6 +280,7 @@ fn edge_content<S: Snapshot, L: Ledger>(
         alloc,
         snap,
         limit,
+        cascade,
         is_single(sort),
         braces,
         inner.as_slice(),
@@ -272,12 +295,13 @@ fn edge_content<S: Snapshot, L: Ledger>(
     Ok(Content::Nodes(below))
 }
 
-// The nodes to which an edge leads, and what they show.
+// The nodes to which an edge leads, without those that a cascade drops, and what they show.
 #[cycle(level)]
 fn below_of<S: Snapshot, L: Ledger>(
     alloc: Global,
     snap: &S,
     limit: usize,
+    cascade: bool,
     single: bool,
     braces: &[QField],
     inner: &[Field],
@@ -289,20 +313,22 @@ fn below_of<S: Snapshot, L: Ledger>(
     nodes: &[u64],
     reads: &mut Steps<L>,
 ) -> Result<Below, TreeFault>
-    ensures shows { IfOk result (λ below. IsBelow nodes.now below (below_trees (S.declared snap.now) (S.graph snap.now) vars.now.variables edge.now args.now orders.now filters.now braces.now inner.now single)) }
+    ensures shows { IfOk result (λ below. IsBelow nodes.now below (below_trees (S.declared snap.now) (S.graph snap.now) vars.now.variables edge.now args.now orders.now filters.now braces.now inner.now single cascade)) }
     ensures limit { IfOk result (λ below. below.rows.limit ≡ limit) }
     ensures begun { IfOk result (λ below. below.rows.begun ≡ []) }
-    ensures too_large { IsErrOf result TreeFault.TooLarge → limit < bytes_of (below_trees (S.declared snap.now) (S.graph snap.now) vars.now.variables edge.now args.now orders.now filters.now braces.now inner.now single) nodes.now }
+    ensures too_large { IsErrOf result TreeFault.TooLarge → limit < bytes_of (below_trees (S.declared snap.now) (S.graph snap.now) vars.now.variables edge.now args.now orders.now filters.now braces.now inner.now single cascade) nodes.now }
 {
     let counts = counts_of(alloc, braces)?;
     let lists = lists_of(
         alloc, snap, single, edge, args, orders, filters, vars, nodes, reads,
     )?;
+    let lists = left_lists(alloc, snap, cascade, braces, inner, lists, vars, reads)?;
     let level = nodes_below(alloc, lists.as_slice())?;
     let rows = level_rows(
         alloc,
         snap,
         limit,
+        cascade,
         braces,
         inner,
         vars,

@@ -98,13 +98,14 @@ fn is_built_arg(arg: &QArg) -> bool
     }
 }
 
-// A filter that names no variable.
+// Any directive but a filter that names a variable, and recursion.
 fn is_built_dir(dir: &QDir) -> bool
     ensures { result ≡ is_built_dir dir.now }
 {
     match dir {
         QDir::Filter(filter) => is_closed_filter(filter),
-        QDir::Cascade | QDir::Normalize | QDir::Recurse(_) => false,
+        QDir::Cascade | QDir::Normalize => true,
+        QDir::Recurse(_) => false,
     }
 }
 
@@ -193,7 +194,7 @@ fn is_built_block(block: &QBlock) -> bool
         && are_built_fields(block.fields.as_slice())
 }
 
-/// Whether a query has the form that is evaluated: each block has a function, lists have no directive but filters, fields
+/// Whether a query has the form that is evaluated: each block has a function, lists have any directives but recursion, fields
 /// are `uid`, `count(uid)`, `count` of an edge, or edges with such lists and fields to any depth, and no variable is defined
 /// or named anywhere. It takes no memory.
 pub fn is_built(query: &Query) -> bool

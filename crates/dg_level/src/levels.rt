@@ -23,7 +23,7 @@ use std::sync::ledger::Ledger;
 ///
 /// It goes level by level: the lists of all nodes under an edge, the union of the lists as the level below, and the rows of
 /// that. The row of a node is made once in each level, whatever number of nodes lead to it, and so is each look-up for a node
-/// and a field.
+/// and a field. Where a cascade goes on from above, lists lose the nodes at which a field is missing.
 ///
 /// # Errors
 ///
@@ -32,6 +32,7 @@ pub fn rows_of<S: Snapshot, L: Ledger>(
     alloc: Global,
     snap: &S,
     limit: usize,
+    cascade: bool,
     fields: &[QField],
     kept: &[Field],
     vars: &Vars,
@@ -39,15 +40,16 @@ pub fn rows_of<S: Snapshot, L: Ledger>(
     reads: &mut Steps<L>,
 ) -> Result<Rows, TreeFault>
     ensures rows { (ds : List Definition) → IsLawful (S.declared snap.now) (S.graph snap.now) → AreOfKind ds vars.now.variables → AreFieldsOf (S.declared snap.now) ds fields.now kept.now
-        → IfOk result (λ rows. rows.rows ≡ map (λ n. row_text (fields_at (S.declared snap.now) (S.graph snap.now) ds vars.now.variables fields.now n)) nodes.now) }
+        → IfOk result (λ rows. rows.rows ≡ map (λ n. row_text (fields_at (S.declared snap.now) (S.graph snap.now) ds vars.now.variables cascade fields.now n)) nodes.now) }
     ensures too_large { (ds : List Definition) → IsLawful (S.declared snap.now) (S.graph snap.now) → AreOfKind ds vars.now.variables → AreFieldsOf (S.declared snap.now) ds fields.now kept.now
-        → IsErrOf result TreeFault.TooLarge → limit < total (map (λ n. row_text (fields_at (S.declared snap.now) (S.graph snap.now) ds vars.now.variables fields.now n)) nodes.now) }
+        → IsErrOf result TreeFault.TooLarge → limit < total (map (λ n. row_text (fields_at (S.declared snap.now) (S.graph snap.now) ds vars.now.variables cascade fields.now n)) nodes.now) }
 {
     meanings();
     level_rows(
         alloc,
         snap,
         limit,
+        cascade,
         fields,
         kept,
         vars,

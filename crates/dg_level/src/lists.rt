@@ -1,5 +1,5 @@
 // The lists of nodes under an edge of the nodes of a level.
-ghost use Rattle.std.specs.Prelude.{◌≡◌, map, flat_map, IfOk};
+ghost use Rattle.std.specs.Prelude.{◌≡◌, ℕ, List as Items, Some, map, flat_map, slice_get, IfOk};
 ghost use Rattle.std.specs.Ordering.{nat_cmp};
 ghost use Rattle.dg_values.specs.Ascending.{ascending};
 ghost use Rattle.dg_uids.specs.Sets.{common};
@@ -207,4 +207,14 @@ pub fn nodes_below(alloc: Global, lists: &[List<u64>]) -> Mem<Uids>
         found.extend_from_slice(list.as_slice())?;
     }
     Ok(Uids::gathered(found))
+}
+
+/// The list of the node at a place.
+pub fn list_at(lists: &[List<u64>], place: usize) -> &[u64]
+    ensures { (list : ℕ → Items ℕ) (nodes : Items ℕ) (node : ℕ) → lists.now ≡ map list nodes → slice_get nodes place ≡ Some node → result.now ≡ list node }
+{
+    match lists.get(place) {
+        Some(list) => list.as_slice(),
+        None => &[],
+    }
 }

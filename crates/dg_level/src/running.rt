@@ -10,7 +10,7 @@ ghost use Rattle.dg_level.specs.Blocks.{is_hidden, nodes_shown, block_shown, blo
 ghost use Rattle.dg_level.specs.Parts.{parts_text, has_parts};
 
 use crate::arrays::comma_behind;
-use crate::blocks::{array_shown, nodes_of};
+use crate::blocks::{array_shown, left_of, nodes_of};
 use dg_check::{Parts, Plan, Vars};
 use dg_graph::Snapshot;
 use dg_parse::QBlock;
@@ -77,6 +77,7 @@ fn push_block<S: Snapshot, L: Ledger>(
         return Ok(wrote);
     }
     let list = nodes_of(alloc, snap, block, kept, vars, reads)?;
+    let list = left_of(alloc, snap, block, kept, vars, list, reads)?;
     out.mark(comma_behind(wrote))?;
     push_named(alloc, snap, out, block, kept, vars, list.as_slice(), reads)?;
     Ok(true)
@@ -130,11 +131,11 @@ fn answer_of_blocks<S: Snapshot, L: Ledger>(
 
 /// The answer of a query over a graph, as text: each block under its name in the order of the text, but those of the name
 /// `var`. A block shows an array: for each of its fields `count(uid)` an object with the number of its nodes, and then those
-/// of its nodes that show something, in their order. It is for the queries that `is_built` tells: no variable has a value, and
-/// directives are filters.
+/// of its nodes that show something, in their order; or flat objects where it is normalized. It is for the queries that
+/// `is_built` tells: no variable has a value, and nothing recurs.
 ///
 /// Block by block the list is found: the root's nodes, those of them that pass each filter, their order, for which a value
-/// is looked up once for each node, and the page. Then what each node shows is made once, level by level, and the array is
+/// is looked up once for each node, the page, and those of it that a cascade leaves. Then what each node shows is made once, level by level, and the array is
 /// put together.
 ///
 /// # Errors

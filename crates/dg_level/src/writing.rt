@@ -10,16 +10,17 @@ ghost use Rattle.dg_level.specs.Columns.{FieldsOf, TreesOf, number_object, is_al
 use crate::Rows;
 use crate::answers::{value_tree, values_of, values_shown};
 use crate::column::{Below, Column, Content};
+use crate::lists::list_at;
 use dg_check::Vars;
 use dg_funcs::{count_along, value_at};
 use dg_graph::Snapshot;
 use dg_tree::{Tree, TreeFault};
-use dg_values::{List, Mem, OutOfMemory, Steps, Str, Value};
+use dg_values::{Mem, OutOfMemory, Steps, Str, Value};
 use std::alloc::Global;
 use std::sync::ledger::Ledger;
 
-// A node's number as it is written.
-fn uid_text(alloc: Global, node: u64) -> Mem<Str>
+/// A node's number as it is written. The error is want of memory.
+pub fn uid_text(alloc: Global, node: u64) -> Mem<Str>
     ensures { IfOk result (λ text. text ≡ uid_text node) }
 {
     Ok(Str::from_string(format!(in alloc; "0x{node:x}")?))
@@ -39,8 +40,8 @@ fn push_tree(rows: &mut Rows, key: &str, tree: Option<Tree>) -> Result<(), TreeF
     }
 }
 
-// The tree of a value, where there is one.
-fn tree_of(alloc: Global, value: Option<&Value>) -> Mem<Option<Tree>>
+/// The tree of a value, where there is one. The error is want of memory.
+pub fn tree_of(alloc: Global, value: Option<&Value>) -> Mem<Option<Tree>>
     ensures { IfOk result (λ tree. option_to_list tree ≡ map value_tree (option_to_list (option_copied value.entry))) }
 {
     match value {
@@ -65,16 +66,6 @@ pub fn number_objects(alloc: Global, number: usize, keys: &[Str]) -> Mem<Vec<Str
         texts.push(number_object(alloc, number, key.as_str())?)?;
     }
     Ok(texts)
-}
-
-// The list of the node at a place.
-fn list_at(lists: &[List<u64>], place: usize) -> &[u64]
-    ensures { (list : ℕ → List ℕ) (nodes : List ℕ) (node : ℕ) → lists.now ≡ map list nodes → slice_get nodes place ≡ Some node → result.now ≡ list node }
-{
-    match lists.get(place) {
-        Some(list) => list.as_slice(),
-        None => &[],
-    }
 }
 
 // Whether a node is shown by itself: a single edge leads to it, and no number is asked for.

@@ -78,6 +78,7 @@ fn block_rows<L: Ledger>(
         alloc,
         at,
         limit,
+        false,
         block.fields.as_slice(),
         kept.fields.as_slice(),
         &vars,

@@ -9,6 +9,6 @@ invariant-columns_of-loop-place g l =
     let schema = g.S.Snapshot.declared l.snap in
     let graph = g.S.Snapshot.graph l.snap in
     let vars = l.vars.variables in
-    AreShown graph vars l.nodes l.columns.items (take l.place (all_fields schema graph vars l.fields l.kept))
-    × (l.used ≤ all_bytes (take l.place (all_trees schema graph vars l.fields l.kept)) l.nodes)
+    AreShown graph vars l.nodes l.columns.items (take l.place (all_fields schema graph vars l.cascade l.fields l.kept))
+    × (l.used ≤ all_bytes (take l.place (all_trees schema graph vars l.cascade l.fields l.kept)) l.nodes)
     × (l.used ≤ l.limit)

@@ -13,8 +13,8 @@ returns-clause-rows g c = λ ds lawful of_kind are.
     let vars = c.args.vars.now.variables in
     let fields = c.args.fields.now in
     let kept = c.args.kept.now in
-    let e : map (λ n. row_text (planned_at schema graph vars fields kept n)) c.as_slice.result.now ≡ map (λ n. row_text (fields_at schema graph ds vars fields n)) c.args.nodes.now =
-    λ i. map (λ n. row_text (planned_means schema ds graph vars lawful of_kind c.meanings.ensures.filters fields kept are n i)) (c.as_slice.ensures.items i) in
+    let e : map (λ n. row_text (planned_at schema graph vars c.args.cascade fields kept n)) c.as_slice.result.now ≡ map (λ n. row_text (fields_at schema graph ds vars c.args.cascade fields n)) c.args.nodes.now =
+    λ i. map (λ n. row_text (planned_means schema ds graph vars lawful of_kind c.meanings.ensures.filters c.args.cascade fields kept are n i)) (c.as_slice.ensures.items i) in
     subst (λ (xs : List (List ℕ)). IfOk c.level_rows.result (λ rows. rows.rows ≡ xs)) e c.level_rows.ensures.rows
 
 pub returns-clause-too_large : goal.returns-clause-too_large
@@ -24,6 +24,6 @@ returns-clause-too_large g c = λ ds lawful of_kind are err.
     let vars = c.args.vars.now.variables in
     let fields = c.args.fields.now in
     let kept = c.args.kept.now in
-    let e : map (λ n. row_text (planned_at schema graph vars fields kept n)) c.as_slice.result.now ≡ map (λ n. row_text (fields_at schema graph ds vars fields n)) c.args.nodes.now =
-    λ i. map (λ n. row_text (planned_means schema ds graph vars lawful of_kind c.meanings.ensures.filters fields kept are n i)) (c.as_slice.ensures.items i) in
+    let e : map (λ n. row_text (planned_at schema graph vars c.args.cascade fields kept n)) c.as_slice.result.now ≡ map (λ n. row_text (fields_at schema graph ds vars c.args.cascade fields n)) c.args.nodes.now =
+    λ i. map (λ n. row_text (planned_means schema ds graph vars lawful of_kind c.meanings.ensures.filters c.args.cascade fields kept are n i)) (c.as_slice.ensures.items i) in
     subst (λ (xs : List (List ℕ)). c.args.limit < total xs) e (c.level_rows.ensures.too_large err)

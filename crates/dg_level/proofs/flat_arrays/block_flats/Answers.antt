@@ -1,0 +1,36 @@
+use Rattle.std.proofs.Common.{◌≡◌, ◌<◌, ℕ, false, List, map, ap, ◌∙◌, subst}
+use Rattle.std.specs.Prelude.{IfOk}
+use Rattle.dg_tree.specs.declared.tree.Field.{Field}
+use Rattle.dg_level.specs.Shown.{cascades, objects_at}
+use Rattle.dg_level.specs.Planned.{planned_flats}
+use Rattle.dg_level.specs.FlatLevels.{pairs_of}
+use Rattle.dg_level.proofs.MeaningLaws.{planned_flats_mean}
+use Rattle.dg_level.proofs.flat_arrays.block_flats.Goals as goal
+
+pub returns-clause-flats : goal.returns-clause-flats
+returns-clause-flats g c = λ ds lawful kinds is.
+    let schema = g.S.Snapshot.declared c.args.snap.now in
+    let graph = g.S.Snapshot.graph c.args.snap.now in
+    let vars = c.args.vars.now.variables in
+    let block = c.args.block.now in
+    let cascade = cascades false block.dirs in
+    let flag : c.cascades.result ≡ cascade = c.cascades.ensures ∙ ap (cascades false) c.as_slice.ensures in
+    let read : map (planned_flats schema graph vars c.cascades.result c.as_slice-2.result.now c.as_slice-3.result.now) c.as_slice-4.result.now ≡ map (planned_flats schema graph vars cascade block.fields c.args.kept.now.fields) c.args.level.now =
+    λ i. map (planned_flats schema graph vars (flag i) (c.as_slice-2.ensures i) (c.as_slice-3.ensures i)) (c.as_slice-4.ensures.items i) in
+    let mean : map (planned_flats schema graph vars cascade block.fields c.args.kept.now.fields) c.args.level.now ≡ map (objects_at schema graph ds vars cascade block.fields) c.args.level.now =
+    λ i. map (λ n. planned_flats_mean schema ds graph vars lawful kinds c.meanings.ensures.filters cascade block.fields c.args.kept.now.fields is.fields n i) c.args.level.now in
+    subst (λ (all : List (List (List Field))). IfOk c.level_flats.result (λ v. v.items ≡ all)) (read ∙ mean) c.level_flats.ensures.flats
+
+pub returns-clause-too_large : goal.returns-clause-too_large
+returns-clause-too_large g c = λ ds lawful kinds is over.
+    let schema = g.S.Snapshot.declared c.args.snap.now in
+    let graph = g.S.Snapshot.graph c.args.snap.now in
+    let vars = c.args.vars.now.variables in
+    let block = c.args.block.now in
+    let cascade = cascades false block.dirs in
+    let flag : c.cascades.result ≡ cascade = c.cascades.ensures ∙ ap (cascades false) c.as_slice.ensures in
+    let read : pairs_of (planned_flats schema graph vars c.cascades.result c.as_slice-2.result.now c.as_slice-3.result.now) c.as_slice-4.result.now ≡ pairs_of (planned_flats schema graph vars cascade block.fields c.args.kept.now.fields) c.args.level.now =
+    λ i. pairs_of (planned_flats schema graph vars (flag i) (c.as_slice-2.ensures i) (c.as_slice-3.ensures i)) (c.as_slice-4.ensures.items i) in
+    let mean : pairs_of (planned_flats schema graph vars cascade block.fields c.args.kept.now.fields) c.args.level.now ≡ pairs_of (objects_at schema graph ds vars cascade block.fields) c.args.level.now =
+    λ i. pairs_of (λ n. planned_flats_mean schema ds graph vars lawful kinds c.meanings.ensures.filters cascade block.fields c.args.kept.now.fields is.fields n i) c.args.level.now in
+    subst (λ (t : ℕ). 4194304 < t) (read ∙ mean) (c.level_flats.ensures.too_large over)

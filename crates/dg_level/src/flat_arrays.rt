@@ -1,0 +1,85 @@
+// The array of a block whose nodes are shown as flat objects.
+ghost use Rattle.std.specs.Prelude.{◌≡◌, false, ◌<◌, ◌∷◌, [], List, length, map, IfOk, IsErrOf};
+ghost use Rattle.dg_graph.specs.Graphs.{IsLawful};
+ghost use Rattle.dg_check.specs.Parts.{IsBlockOf};
+ghost use Rattle.dg_check.specs.Variables.{Definition};
+ghost use Rattle.dg_funcs.specs.Laws.{AreOfKind};
+ghost use Rattle.dg_tree.specs.declared.tree.Tree.TheVariants as trees;
+ghost use Rattle.dg_tree.specs.Texts.{tree_text};
+ghost use Rattle.dg_level.specs.Shown.{cascades, objects_at};
+ghost use Rattle.dg_level.specs.Blocks.{flat_shown};
+ghost use Rattle.dg_level.specs.FlatLevels.{pairs_of};
+
+use crate::Rows;
+use crate::blocks::MOST;
+use crate::directives::cascades;
+use crate::flat_levels::level_flats;
+use crate::flat_rows::Flats;
+use crate::whole::level_of;
+use dg_check::{Parts, Vars};
+use dg_funcs::meanings;
+use dg_graph::Snapshot;
+use dg_parse::QBlock;
+use dg_tree::TreeFault;
+use dg_uids::Uids;
+use dg_values::Steps;
+use std::alloc::Global;
+use std::sync::ledger::Ledger;
+
+// The flat objects of each node of a block's level.
+//
+// `TooLarge` only where they have more than 4,194,304 fields together. The other error is want of memory.
+fn block_flats<S: Snapshot, L: Ledger>(
+    alloc: Global,
+    snap: &S,
+    block: &QBlock,
+    kept: &Parts,
+    vars: &Vars,
+    level: &Uids,
+    reads: &mut Steps<L>,
+) -> Result<Vec<Flats>, TreeFault>
+    ensures flats { (ds : List Definition) → IsLawful (S.declared snap.now) (S.graph snap.now) → AreOfKind ds vars.now.variables → IsBlockOf (S.declared snap.now) ds block.now kept.now
+        → IfOk result (λ v. v.items ≡ map (objects_at (S.declared snap.now) (S.graph snap.now) ds vars.now.variables (cascades false block.now.dirs) block.now.fields) level.now) }
+    ensures too_large { (ds : List Definition) → IsLawful (S.declared snap.now) (S.graph snap.now) → AreOfKind ds vars.now.variables → IsBlockOf (S.declared snap.now) ds block.now kept.now
+        → IsErrOf result TreeFault.TooLarge → 4194304 < pairs_of (objects_at (S.declared snap.now) (S.graph snap.now) ds vars.now.variables (cascades false block.now.dirs) block.now.fields) level.now }
+{
+    meanings();
+    level_flats(
+        alloc,
+        snap,
+        cascades(false, block.dirs.as_slice()),
+        block.fields.as_slice(),
+        kept.fields.as_slice(),
+        vars,
+        level.as_slice(),
+        reads,
+    )
+}
+
+/// The array of the flat objects of the nodes of a list, as the one row. Those of a node are made once, in a level of all of
+/// them.
+///
+/// # Errors
+///
+/// `TooLarge` only where the array has more than 16,777,216 bytes, and else `OutOfMemory` for want of memory.
+pub fn flat_array<S: Snapshot, L: Ledger>(
+    alloc: Global,
+    snap: &S,
+    block: &QBlock,
+    kept: &Parts,
+    vars: &Vars,
+    list: &[u64],
+    reads: &mut Steps<L>,
+) -> Result<Rows, TreeFault>
+    ensures ok { (ds : List Definition) → IsLawful (S.declared snap.now) (S.graph snap.now) → AreOfKind ds vars.now.variables → IsBlockOf (S.declared snap.now) ds block.now kept.now
+        → IfOk result (λ rows. rows.rows ≡ tree_text (trees.Array (flat_shown (S.declared snap.now) (S.graph snap.now) ds vars.now.variables block.now list.now)) ∷ []) }
+    ensures too_large { (ds : List Definition) → IsLawful (S.declared snap.now) (S.graph snap.now) → AreOfKind ds vars.now.variables → IsBlockOf (S.declared snap.now) ds block.now kept.now
+        → IsErrOf result TreeFault.TooLarge → 16777216 < length (tree_text (trees.Array (flat_shown (S.declared snap.now) (S.graph snap.now) ds vars.now.variables block.now list.now))) }
+{
+    let level = level_of(alloc, list)?;
+    let below = block_flats(alloc, snap, block, kept, vars, &level, reads)?;
+    let mut array = Rows::within(alloc, MOST);
+    array.flat_array(list, &level, below.as_slice())?;
+    array.close()?;
+    Ok(array)
+}
