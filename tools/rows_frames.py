@@ -1,5 +1,5 @@
 #!/usr/bin/env python3
-"""The answers to the rows about sources, sinks, frames and replies.
+"""The answers to the rows about sources, sinks, frames, scripts and replies.
 
     rows_frames.py <crates/table_frames/stdin >crates/table_frames/stdout
 
@@ -296,6 +296,51 @@ def name_row(text: str) -> str:
 
 
 # ---------------------------------------------------------------------------------------------------
+# Scripts that are made from a seed
+# ---------------------------------------------------------------------------------------------------
+
+SCHEMA = "name: string @index(exact) .\nage: int @index(int) .\nfriend: [uid] @reverse @count ."
+QUESTION = "{ q(func: eq(age, 7), first: 5) { uid name count(friend) } }"
+BATCH = 100
+MOST_SHOWN = 3
+
+
+def draws(state: int) -> Iterator[int]:
+    """Numbers of 15 bits, one after another."""
+    while True:
+        state = (state * 1103515245 + 12345) % (1 << 31)
+        yield state >> 16
+
+
+def with_length(line: str, body: str) -> str:
+    return f"{line} {len(body)}\n{body}\n"
+
+
+def script_of(seed: int, size: int) -> str:
+    drawn = draws(seed)
+    lines = []
+    for node in range(1, size + 1):
+        lines.append(f'<{node:#x}> <name> "n{next(drawn) % 1000}" .')
+        lines.append(f'<{node:#x}> <age> "{next(drawn) % 100}" .')
+        lines.append(f"<{node:#x}> <friend> <{next(drawn) % size + 1:#x}> .")
+    script = with_length("alter", SCHEMA)
+    for at in range(0, len(lines), 3 * BATCH):
+        body = "\n".join(lines[at : at + 3 * BATCH])
+        script += f"begin 1\n{with_length('mutate 1', body)}commit 1\nroll name\n"
+    return f"{script}begin 1\n{with_length('query 1', QUESTION)}discard 1\n"
+
+
+def gen_row(seed: str, size: str) -> str:
+    script = script_of(int(seed), int(size)).encode()
+    if int(size) <= MOST_SHOWN:
+        return shown(script)
+    total = 0
+    for byte in script:
+        total = (total * 257 + byte) % (1 << 32)
+    return f"{len(script)} bytes, sum {total}"
+
+
+# ---------------------------------------------------------------------------------------------------
 # Replies
 # ---------------------------------------------------------------------------------------------------
 
@@ -339,6 +384,7 @@ TABLES: dict[str, Callable[..., str]] = {
     "frames": frames_row,
     "after": after_row,
     "bodies": bodies_row,
+    "gen": gen_row,
     "reply": reply_row,
     "refusal": refusal_row,
 }

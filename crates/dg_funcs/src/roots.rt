@@ -295,6 +295,7 @@ fn root_of_span<S: Snapshot, L: Ledger>(
 /// | `between` by exact, int, hour, day, month or year | those of the range between the two, both included |
 /// | `le`, `lt` of one value, by exact, int or bool | those of the range up to the value |
 /// | `ge`, `gt` of one value, by exact, int or bool | those of the range from the value on |
+/// | `le`, `lt` of one moment, by hour, day, month or year | those of the range up to its hour, day, month or year |
 /// | `ge`, `gt` of one moment, by hour, day, month or year | those of the range from its hour, day, month or year on |
 /// | `anyofterms` by term | one for each distinct term; they tell alone |
 /// | `allofterms` by term | one for each distinct term |
@@ -302,9 +303,7 @@ fn root_of_span<S: Snapshot, L: Ledger>(
 /// | `le`, `lt` of `count` to one value, and `between`, with `@count` | one for each number that stands so; they tell alone |
 /// | `ge`, `gt` of `count` to one value, with `@count` | one for each number that doesn't, and all nodes with an object; they tell alone |
 ///
-/// For all else each node that can pass is asked: each with an object of the predicate, or with a value of the variable. So
-/// for `le` and `lt` of a moment: nothing says that the moments of a graph are of the years 0000 to 9999, and outside these
-/// hours, days, months and years don't keep their order.
+/// For all else each node that can pass is asked: each with an object of the predicate, or with a value of the variable.
 pub fn root<S: Snapshot, L: Ledger>(
     alloc: Global,
     snap: &S,

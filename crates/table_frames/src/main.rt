@@ -1,4 +1,4 @@
-//! Rows about sources, sinks, frames and replies. Each line of standard input asks one thing, and the line that is
+//! Rows about sources, sinks, frames, scripts and replies. Each line of standard input asks one thing, and the line that is
 //! printed repeats it and has the answer.
 #![tactic(auto)]
 
@@ -7,6 +7,7 @@ mod frames;
 mod refusals;
 mod replies;
 mod said;
+mod scripts;
 mod sinks;
 mod sources;
 
@@ -57,6 +58,7 @@ fn answer(alloc: Global, row: &str) -> Answer {
         "frames" => frames::frames(alloc, said),
         "after" => frames::after(alloc, said),
         "bodies" => frames::bodies(alloc, said),
+        "gen" => scripts::made(alloc, said),
         "reply" => replies::row(alloc, said),
         "refusal" => refusals::row(alloc, said),
         _ => Err(RowFault::Unreadable),
