@@ -3,12 +3,13 @@
 from __future__ import annotations
 
 import random
-from collections.abc import Callable, Iterator
+from collections.abc import Callable, Iterable, Iterator
 from dataclasses import dataclass
-from itertools import chain, islice
+from itertools import chain, groupby, islice
+from typing import Union
 
 from bench_steps import (
-    INDEXED, LARGE, NAME, RANK, WORDS, Asked, Triple, Workload, name_of, names, queries, ranks, texts, transactions,
+    INDEXED, LARGE, NAME, RANK, WORDS, Asked, Triple, Workload, friends, name_of, names, queries, ranks, texts, transactions,
 )  # fmt: skip
 
 
@@ -103,6 +104,35 @@ def with_both(words: list[str]) -> Asked:
     )
 
 
+class Hops(Asked):
+    """The nodes that are three edges away from one, each under those that lead to it."""
+
+    def text(self) -> str:
+        return f"{{ q(func: {self.function}) {{ friend {{ friend {{ friend {{ uid }} }} }} }} }}"
+
+    def answer(self, rows: Iterable[tuple[Union[int, str], ...]]) -> str:
+        return f'{{"data":{{"q":[{nested(list(rows))}]}}}}'
+
+
+def nested(rows: list[tuple[Union[int, str], ...]]) -> str:
+    """The object of a node, by the ways that lead on from it."""
+    if len(rows[0]) == 1:
+        return '{"friend":[' + ",".join(f'{{"uid":"{row[0]:#x}"}}' for row in rows) + "]}"
+    groups = groupby(rows, lambda row: row[0])
+    return '{"friend":[' + ",".join(nested([row[1:] for row in group]) for _, group in groups) + "]}"
+
+
+def three_hops(size: int, draw: random.Random) -> Hops:
+    """The nodes that are three edges away from one at random."""
+    node = draw.randrange(1, size + 1)
+    return Hops(
+        f"uid({node:#x})",
+        "select a.o, b.o, c.o from triple a join triple b on b.p = a.p and b.s = a.o join triple c on c.p = b.p and c.s = b.o "
+        "where a.p = ? and a.s = ? order by 1, 2, 3",
+        ("friend", node),
+    )
+
+
 def read_of(terms: int, size: int) -> int:
     """About how many microseconds it takes to read the nodes that so many terms list, of three terms for each node."""
     return 10 + terms * 3 * size // len(WORDS) // 2
@@ -179,4 +209,5 @@ QUESTIONS = [
         lambda size: 4_000,
         "int",
     ),
+    Question("query: three hops, 125 ways", INDEXED["reverse"][0], friends, three_hops, lambda size: 100, "reverse"),
 ]

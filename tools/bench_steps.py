@@ -140,6 +140,13 @@ def edges(size: int) -> Iterator[Triple]:
     return (Triple(node, "friend", draw.randrange(1, 101)) for node in range(1, size + 1))
 
 
+def friends(size: int) -> Iterator[Triple]:
+    """Five edges from each node to others at random, fewer where there are fewer nodes."""
+    draw = random.Random(size)
+    each = (draw.sample(range(1, size + 1), min(5, size)) for _ in range(size))
+    return (Triple(node, "friend", friend) for node, some in enumerate(each, 1) for friend in sorted(some))
+
+
 def ranks(size: int) -> Iterator[Triple]:
     """A number for each node, each of as many numbers once."""
     numbers = random.Random(size).sample(range(1, size + 1), size)
