@@ -1,0 +1,15 @@
+use Rattle.std.proofs.Common.{◌<◌, length, arith}
+use Rattle.dg_recurse.proofs.WayLaws.{node_more}
+use Rattle.dg_recurse.proofs.search.nearest_of.Goals as goal
+
+pub loop-node-preserved : goal.loop-node-preserved
+loop-node-preserved c =
+    let l = c.loop-node in
+    let near = c.nearer-best in
+    let lt : l.node-index < length c.args.nodes.now = omega (arith, c.loop-node-test.true) in (
+      omega (arith, near.ensures.edges, l.invariant.0),
+      omega (arith, near.ensures.depth, l.invariant.1),
+      λ enough. node_more c.args.reach.now c.args.way.now.path.items c.args.way.now.visits.items c.args.way.now.raised.items near.result.edges l.best.edges l.best.depth near.result.depth c.args.nodes.now l.node-index lt near.ensures.edges near.ensures.depth
+          (l.invariant.2 (omega (arith, enough, near.ensures.edges)))
+          near.ensures.far,
+    )
