@@ -1,10 +1,11 @@
 #!/usr/bin/env python3
-"""Times nested queries of the built program at three sizes, and prints a table with the growth exponent of each.
+"""Times nested queries of the built program, and queries with variables and recursion, at three sizes, and prints a table with the
+growth exponent of each.
 
     bench_levels.py [PROGRAM] [--sizes SMALL MIDDLE LARGE] [--only WORD]
 
 Each line is one query over a graph that is loaded first; where all nodes lead to all, or parents share their children, the sizes are
-smaller ones of its own. The program is asked through a pipe, and what counts is the time from a request to the end of its reply, the
+smaller ones of its own, and where the query itself grows they are those of its blocks. The program is asked through a pipe, and what counts is the time from a request to the end of its reply, the
 least of as many as half a second holds, and of three at least. The exponent is that by which it grows with the nodes, from the smallest
 size to the greatest. The memory is the most that the program had with the greatest, its graph included.
 """
@@ -20,7 +21,9 @@ import sys
 import time
 from collections.abc import Callable, Iterator
 from pathlib import Path
-from typing import NamedTuple
+from typing import NamedTuple, Union
+
+from plain_answers import RECURSION_IS_BUILT
 
 PROGRAM = Path(__file__).resolve().parent.parent / "crates/dgraph/out/dgraph"
 STATEMENTS = 10_000
@@ -30,6 +33,7 @@ LEAST = 3
 SIZES = [1_000, 10_000, 100_000]
 CLIQUES = (50, 100, 200)
 SHARED = (100, 300, 1_000)
+CHAINS = (200, 2_000, 20_000)
 
 
 class Nested(NamedTuple):
@@ -38,8 +42,12 @@ class Nested(NamedTuple):
     name: str
     schema: str
     stored: Callable[[int], Iterator[str]]
-    asked: str
+    asked: Union[str, Callable[[int], str]]
     sizes: tuple[int, ...] = ()
+
+    def query(self, size: int) -> str:
+        """What is asked at a size."""
+        return self.asked if isinstance(self.asked, str) else self.asked(size)
 
 
 class Measured(NamedTuple):
@@ -66,6 +74,24 @@ def all_to_all(size: int) -> Iterator[str]:
             yield f"<{hex(node)}> <friend> <{hex(other)}> ."
 
 
+def all_named(size: int) -> Iterator[str]:
+    """The same, with a name at each node."""
+    yield from all_to_all(size)
+    yield from (f'<{hex(node)}> <name> "name {node}" .' for node in range(1, size + 1))
+
+
+def last_named(size: int) -> Iterator[str]:
+    """The same, with a name at the last node alone."""
+    yield from all_to_all(size)
+    yield f'<{hex(size)}> <name> "the last" .'
+
+
+def first_named(size: int) -> Iterator[str]:
+    """The same, with a name at the first node alone."""
+    yield from all_to_all(size)
+    yield '<0x1> <name> "the first" .'
+
+
 def shared(size: int) -> Iterator[str]:
     """Parents that all have the same children, as many as there are parents, of which each has a name."""
     for child in range(1, size + 1):
@@ -89,8 +115,21 @@ def deep(fields: str, depth: int = 10, edge: str = "friend", directives: str = "
     return f"{{ q(func: uid(0x1)) {directives} {braces} }}"
 
 
+def beside(query: str, block: str) -> str:
+    """A query with one block more."""
+    return f"{query[:-1]}{block} }}"
+
+
+def chain(size: int, backwards: bool) -> str:
+    """So many blocks, of which each uses what the one before it finds, in this order of the text or backwards."""
+    blocks = [f"x{at} as var(func: uid({f'x{at - 1}' if at else '0x1'})) {{}}" for at in range(size)]
+    said = " ".join(reversed(blocks) if backwards else blocks)
+    return f"{{ q(func: uid(x{size - 1})) {{ uid }} {said} }}"
+
+
 NAMES = "name: string . friend: [uid] @reverse @count ."
 RANKS = "rank: int @index(int) ."
+OF_RANKS = "var(func: has(rank)) { x as rank }"
 TWO = "friend (first: 2)"
 EACH = "{ q(func: has(friend))"
 SHARE = "parents that share as many children:"
@@ -114,7 +153,39 @@ QUERIES = [
     Nested(f"{ALL} flat objects, pages of two", NAMES, all_to_all, deep("u: uid", edge=TWO, directives="@normalize"), CLIQUES),
     Nested("order by a number, 10 shown", RANKS, ranked, "{ q(func: has(rank), orderdesc: rank, first: 10) { rank } }"),
     Nested("the first 10 of all", RANKS, ranked, "{ q(func: has(rank), first: 10) { rank } }"),
+    Nested("a variable of all nodes, 10 shown", RANKS, ranked, "{ x as var(func: has(rank)) { } q(func: uid(x), first: 10) { rank } }"),
+    Nested("a variable of all friends, 10 shown", NAMES, friends, "{ var(func: has(name)) { x as friend } q(func: uid(x), first: 10) { name } }"),
+    Nested("all but a variable's nodes", NAMES, friends, "{ var(func: uid(0x1)) { x as friend } q(func: has(name), first: 10) @filter(not uid(x)) { name } }"),
+    Nested("order by a variable, 10 shown", RANKS, ranked, f"{{ {OF_RANKS} q(func: uid(x), orderdesc: val(x), first: 10) {{ val(x) }} }}"),
+    Nested("a variable's values at a root, 10 shown", RANKS, ranked, f"{{ {OF_RANKS} q(func: ge(val(x), 5), first: 10) {{ val(x) }} }}"),
+    Nested("the least, the greatest and the sum of a variable", RANKS, ranked, f"{{ {OF_RANKS} q() {{ min(val(x)) max(val(x)) sum(val(x)) }} }}"),
+    Nested("a variable of counts, three hops from a node", NAMES, friends, beside(deep("x as count(friend)", 3), "t() { sum(val(x)) }")),
+    Nested("a variable where all lead to all, depth 10", NAMES, all_to_all, beside(deep("x as count(friend)"), "t() { sum(val(x)) }"), CLIQUES),
+    Nested("blocks that use the one before", RANKS, ranked, lambda size: chain(size, False), CHAINS),
+    Nested("blocks that use the one behind", RANKS, ranked, lambda size: chain(size, True), CHAINS),
 ]
+
+
+def recursion(options: str, fields: str = "name friend") -> str:
+    return f"{{ q(func: uid(0x1)) @recurse({options}) {{ {fields} }} }}"
+
+
+RECUR = "recursion where all lead to all, depth 32:"
+LOOPS = "recursion with loops where all lead to all, depth 32:"
+RECURSIONS = [
+    Nested("recursion from a node, of 2 to 14 friends each, depth 3", NAMES, friends, recursion("depth: 3")),
+    Nested(f"{RECUR} names everywhere", NAMES, all_named, recursion("depth: 32"), CLIQUES),
+    Nested(f"{RECUR} a name at the last node", NAMES, last_named, recursion("depth: 32"), CLIQUES),
+    Nested(f"{RECUR} a name at the first node", NAMES, first_named, recursion("depth: 32"), CLIQUES),
+    Nested(f"{RECUR} no name", NAMES, all_to_all, recursion("depth: 32"), CLIQUES),
+    Nested(f"{RECUR} to names alone", NAMES, last_named, recursion("depth: 32", "name friend @filter(has(name))"), CLIQUES),
+    Nested(f"{LOOPS} names everywhere", NAMES, all_named, recursion("depth: 32, loop: true"), CLIQUES),
+    Nested(f"{LOOPS} a name at the last node", NAMES, last_named, recursion("depth: 32, loop: true"), CLIQUES),
+    Nested(f"{LOOPS} no name", NAMES, all_to_all, recursion("depth: 32, loop: true"), CLIQUES),
+    Nested(f"{LOOPS} pages of one", NAMES, all_named, recursion("depth: 32, loop: true", "name friend (first: 1)"), CLIQUES),
+]
+# What is asked: recursions as soon as the program answers them.
+ASKED = [*QUERIES, *(RECURSIONS if RECURSION_IS_BUILT else [])]
 
 
 def frame(head: str, body: str) -> bytes:
@@ -202,7 +273,7 @@ def measured(program: Path, query: Nested, size: int) -> Measured:
             line = running.ask(request)
             if not line.startswith("ok "):
                 raise SystemExit(f"the load was answered {line}")
-        took, line = running.timed(frame("query 1", query.asked))
+        took, line = running.timed(frame("query 1", query.query(size)))
         return Measured(took, running.end(), answer_in(line))
 
 
@@ -226,7 +297,7 @@ def main() -> int:
     reader.add_argument("--only", default="", help="a word in the names of the queries that are timed")
     said = reader.parse_args()
     print("| Query | Nodes | Small | Middle | Large | Exponent | Answer, large | Memory |\n|---|---|---|---|---|---|---|---|", flush=True)
-    for query in QUERIES:
+    for query in ASKED:
         if said.only in query.name:
             sizes = list(query.sizes) or said.sizes
             print(line_of(query, sizes, [measured(said.program, query, size) for size in sizes]), flush=True)

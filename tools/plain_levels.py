@@ -11,9 +11,9 @@ from __future__ import annotations
 from collections.abc import Callable, Iterable, Iterator
 from typing import TYPE_CHECKING, Any, Optional, TypeVar, Union
 
-from plain_queries import Argument, Block, Count, CountUid, Directive, Edge, Field, Followed, Uid
+from plain_queries import Aggregate, Argument, Block, Count, CountUid, Directive, Edge, Field, Followed, Uid, Val
 from plain_tokens import Refusal
-from plain_values import NODE, Posting
+from plain_values import NODE, Posting, json_text
 
 if TYPE_CHECKING:
     from plain_answers import View
@@ -73,13 +73,20 @@ def least(view: View, name: str, node: int) -> Optional[Posting]:
     return min((posting for posting in view.objects(name, node) if posting.rank != NODE), default=None)
 
 
+def ranked_by(view: View, key: Union[int, str, Val], node: int) -> Optional[Posting]:
+    """The value by which a node is ordered: its least of a predicate, or that of a variable."""
+    if isinstance(key, Val):
+        return view.variables[key.name].values.get(node)
+    assert isinstance(key, str)
+    return least(view, key, node)
+
+
 def ordered(view: View, arguments: Iterable[Argument], nodes: list[int]) -> list[int]:
     """Nodes in the order that arguments ask for; those without a value come last, and the number decides at the end."""
     nodes = sorted(nodes)
     keys = [argument for argument in arguments if argument.word.startswith("order")]
     for key in reversed(keys):
-        assert isinstance(key.value, str)
-        values = {node: least(view, key.value, node) for node in nodes}
+        values = {node: ranked_by(view, key.value, node) for node in nodes}
         there = [node for node in nodes if values[node] is not None]
         there.sort(key=lambda node: values[node], reverse=key.word == "orderdesc")  # type: ignore[arg-type, return-value]
         nodes = there + [node for node in nodes if values[node] is None]
@@ -119,6 +126,10 @@ def key_of(field: Field) -> str:
         return "uid"
     if isinstance(item, CountUid):
         return "count"
+    if isinstance(item, Val):
+        return f"val({item.name})"
+    if isinstance(item, Aggregate):
+        return f"{item.word}(val({item.name}))"
     assert isinstance(item, (Count, Followed))
     edge = ("~" if item.edge.back else "") + item.edge.predicate
     return f"count({edge})" if isinstance(item, Count) else edge
@@ -133,13 +144,23 @@ def counts_in(fields: Optional[list[Field]]) -> list[str]:
     return [key_of(field) for field in fields or [] if isinstance(field.item, CountUid)]
 
 
-def under_edge(view: View, item: Followed, node: int, made: Made) -> Union[str, Tree, list[Tree], None]:
-    """What stands under an edge of a node."""
-    sort = sort_of(view, item.edge)
-    if sort is None:
-        return None
-    if sort == VALUES and not item.edge.back:
+def own_text(view: View, item: object, node: int) -> Optional[str]:
+    """What an item shows of a node itself, where it doesn't lead to nodes."""
+    if isinstance(item, Uid):
+        return f'"{hex(node)}"'
+    if isinstance(item, Count):
+        return str(view.ends(item.edge, node))
+    if isinstance(item, Val):
+        value = view.variables[item.name].values.get(node)
+        return None if value is None else json_text(value)
+    if isinstance(item, Followed) and sort_of(view, item.edge) == VALUES:
         return view.shown(item.edge.predicate, node)
+    return None
+
+
+def under_edge(view: View, item: Followed, node: int, made: Made) -> Union[Tree, list[Tree], None]:
+    """What stands under an edge of a node that leads to nodes."""
+    sort = sort_of(view, item.edge)
     nodes = listed(view, item.arguments or [], item.directives, along(view, item.edge, node))
     for child in nodes:
         if (id(item), child) not in made:
@@ -156,13 +177,12 @@ def whole(view: View, fields: list[Field], node: int, made: Made) -> Tree:
     """The whole tree of a node, by the trees below it that were made before."""
     under: dict[str, Union[str, Tree, list[Tree]]] = {}
     for field in fields:
-        item, found = field.item, None
-        if isinstance(item, Uid):
-            found: Union[str, Tree, list[Tree], None] = f'"{hex(node)}"'
-        elif isinstance(item, Count):
-            found = str(view.ends(item.edge, node))
-        elif isinstance(item, Followed):
+        item = field.item
+        found: Union[str, Tree, list[Tree], None]
+        if isinstance(item, Followed) and sort_of(view, item.edge) in (NODES, ONE):
             found = under_edge(view, item, node, made)
+        else:
+            found = own_text(view, item, node)
         if found is not None:
             under[key_of(field)] = found
     return Tree(under)
@@ -298,10 +318,8 @@ def flat(fields: list[Field], tree: Tree) -> list[Pairs]:
 
 def block_objects(view: View, block: Block) -> Iterator[str]:
     """The objects of a block's array."""
-    assert block.function is not None
-    nodes = listed(view, block.arguments, block.directives, view.root(block.function))
     made: Made = {}
-    trees = [whole(view, block.fields, node, made) for node in nodes]
+    trees = [whole(view, block.fields, node, made) for node in view.nodes_of(block)]
     if asks(block.directives, "cascade"):
         trees = remaining(block.fields, trees)
     if asks(block.directives, "normalize"):

@@ -8,10 +8,11 @@ look at the graph begins with the first commit. It was written from the meaning 
 from the program, so that the two can be compared (`random_scripts.py`): proofs say that the program
 does what the definitions in `specs/` say, and this asks whether those say what they should.
 
-Queries with variables, aggregates or `@recurse` and the verbs that aren't built answer 98. It ends with
-4 where the script isn't frames to its end, as the program does. It needs Python 3.9 or later. Tokens
-stand in `plain_tokens.py`, values in `plain_values.py`, graphs and the keys of conflicts in
-`plain_graph.py`, the query language in `plain_queries.py`, and what it answers in `plain_answers.py`.
+The verbs that aren't built answer 98, and so do queries with `@recurse` as long as the program doesn't
+answer them (`plain_answers.py` says whether it does). It ends with 4 where the script isn't frames to its
+end, as the program does. It needs Python 3.9 or later. Tokens stand in `plain_tokens.py`, values in
+`plain_values.py`, graphs and the keys of conflicts in `plain_graph.py`, the query language in
+`plain_queries.py`, and what it answers in `plain_answers.py`.
 """
 
 from __future__ import annotations

@@ -8,29 +8,29 @@
 where the program does otherwise than `plain_machine.py`; it shows the request and both replies. `print`
 writes one of them. Most requests are sound; some statements have a fault, and some bodies and scripts
 a byte more, less or in the place of another. Predicates have directives, which change over data, and
-queries ask by every function, filter and form, also over own changes. In a third of the scripts many
-sessions write at once: a few nodes, lists whose values share tokens, or a node each and the same values
-or edges. So many commits meet a conflict: of a hundred scripts or more, one reply in fifty has to be one,
-and one in two thousand by each kind of key, or `compare` ends with 1. Where no first number is given it
-follows from the day, so that no two days have the same scripts; the numbers are printed. It needs Python
-3.9 or later.
+queries (`random_queries.py`) ask by every function, filter and form, also over own changes, and build on
+each other by variables. In a third of the scripts many sessions write at once: a few nodes, lists whose
+values share tokens, or a node each and the same values or edges. So many commits meet a conflict: of a
+hundred scripts or more, one reply in fifty has to be one, and one in two thousand by each kind of key, or
+`compare` ends with 1. Where no first number is given it follows from the day, so that no two days have the
+same scripts; the numbers are printed. It needs Python 3.9 or later.
 """
 
 from __future__ import annotations
 
 import argparse
-import random
 import re
 import subprocess
 import sys
 import time
 from collections import Counter
 from collections.abc import Iterator
-from itertools import permutations
 from pathlib import Path
 from typing import NamedTuple
 
 import plain_machine as plain
+from random_queries import Queries
+from random_words import EDGES, INDEXED, LISTS, NO_VALUES, NODES, PREDICATES, TEXTS, TYPED, VALUES
 
 # How many seconds the program may take for a script.
 SECONDS = 60
@@ -43,62 +43,15 @@ KEYS = ["data", "index of a node", "index", "count", "rcount"]
 A_DAY = 100_000
 PROGRAM = Path(__file__).resolve().parent.parent / "crates" / "dgraph" / "out" / "dgraph"
 
-# The type of each predicate that every script declares first.
-TYPED = {
-    "name": "string",
-    "note": "default",
-    "age": "int",
-    "ok": "bool",
-    "born": "dateTime",
-    "boss": "uid",
-    "friend": "[uid]",
-    "tags": "[string]",
-    "nums": "[int]",
-    "flags": "[bool]",
-    "days": "[datetime]",
-}
-PREDICATES = list(TYPED)
-LISTS = [name for name, kind in TYPED.items() if kind[0] == "["]
-# Predicates of which an index can be declared.
-INDEXED = [name for name in PREDICATES if name not in ("note", "boss", "friend")]
-EDGES = ["boss", "friend"]
-NODES = [1, 2, 3, 4, 5, 9, 0xFF, 0xABC]
 ODD_NODES = [
     *("<0x0>", "<1>", "<0X1>", "<0x0000000000000001>", "<0x00000000000000000>", "<0x12345678901234567>"),
     *("<0xffffffffffffffff>", "<0x3fffffffffffffff>", "<0x4000000000000000>", "uid(v)", "uid", "_:"),
     *("_:" + "a" * 64, "_:" + "a" * 65, "_:a.b"),
 ]
 ODD_PREDICATES = ["nick", "uid", "set", "val", "<a b>", "<0x1>", "x.y", "x.", "n" * 64, "n" * 65]
-TEXTS = ["Ann", "Bob", "", "a\\nb", 'q\\"x', "\\u00e9", "\\U0001F600", "tab\\t", "\\u0001", "\\/", "é", "\\b\\f\\r"]
-# Texts that share terms and runs of three characters, here and there by a folding alone.
-TEXTS += ["red car", "Red bus", "car, RED!", "a red  fox", "red", "bus", "carbus", "_red_", "fox\\nred", "5½ Ⅷ"]
-TEXTS += ["5½ ⅷ", "Straße", "STRASSE", "straẞe", "ΣΑΣ", "σας", "Ⓐ", "ⓐ", "カフェ"]
-TEXTS += ["cafe\\u0301", "CAFE\u0301", "İx", "ix", "कि तक", "日本語", "本"]
-TEXTS += [" ".join(words) for words in permutations(["red", "Car", "bus", "fox", "ROT"], 2)]
-NUMBERS = ["12", "-3", "+7", "007", "1", "0", "-0", "9223372036854775807", "-9223372036854775808"]
-MOMENTS = [
-    *("2020-02-29", "1993-05-19", "0000-01-01", "1993-05-19T10:20:30Z", "1993-05-19t10:20:30.50+01:30"),
-    *("1993-05-19T08:50:30.5z", "9999-12-31T23:59:59.999999999Z", "1900-03-01T00:00:00", "1993-05-01"),
-    *("1993-12-31", "1992-12-31T23:30:00-01:00", "1969-12-31T23:59:59.5Z", "1969-12-31", "2020-02-01T08:50:00Z"),
-]
-MOMENTS += [f"1993-05-{day}T{hour}:30:00" for day in (18, 19, 20) for hour in ("08", "09", "23")]
-NO_VALUES = [
-    *("9223372036854775808", "True", "2021-02-29", "1900-02-29", "2020-13-01", "2020-01-01T24:00:00"),
-    *("2020-01-01T00:00:60Z", "0000-01-01T00:00:00+00:01", "9999-12-31T23:59:59-00:01", "\\q", "\\ud800", "x\\"),
-]
-VALUES = {"age": NUMBERS, "nums": NUMBERS, "ok": ["true", "false"], "flags": ["true", "false"]}
-VALUES |= {"born": MOMENTS, "days": MOMENTS, "name": TEXTS, "note": TEXTS, "tags": TEXTS}
 TYPES = ["xs:string", "xs:int", "xs:integer", "xs:boolean", "xs:dateTime", "xs:date", "xs:float", "string"]
 TYPES.append("http://www.w3.org/2001/XMLSchema#int")
 KINDS = "default string int bool dateTime datetime uid".split()
-# What queries ask of texts, and what no pattern is.
-PATTERNS = ["red", "^R", "d$", "r.d", "[a-c]a", "[^a-z ]", "ca?r", "o*x", "é", "ß"]
-PATTERNS += ["カ", r"\/", "^$", "[A-C]+", "s", "k", "5½ ?Ⅷ", "."]
-BAD_PATTERNS = ["(", ")", "[a", "*a", "a)", r"a\1", "a(b"]
-# Queries that aren't built, behind their root.
-OTHER_FORMS = ["{ x as name }", "{ x as friend { name } }", "{ val(x) }", "@recurse(depth: 3) { name }", "@filter(uid(x)) { uid }"]
-OTHER_FORMS += ["@cascade { x as name }", "@normalize { n: val(x) }"]
-OTHER_FORMS += ["@filter(eq(val(x), 1)) { x as age }", "@filter(uid_in(boss, x)) { uid }", "{ friend (orderasc: val(x)) { uid } }"]
 UNBUILT = ["line", "state", "roll name", "rollplan x.y", "movestart name 2", "moveoff friend"]
 DIRECTIVES = ["@index", "@reverse", "@count", "@upsert", "@index(exact)", "@index(term, trigram)", "@index(int)"]
 DIRECTIVES += ["@index(year, year)", "@index(bool,)", "@lang"]
@@ -106,11 +59,8 @@ TOKENIZERS = {kind: [name for name, of in plain.TOKENIZERS.items() if of == kind
 BYTES = "{}()[],:.~*\"'<>@/^#\\ \n_a0!-é"
 
 
-class Draw(random.Random):
+class Draw(Queries):
     """Random parts of requests."""
-
-    def one_in(self, most: float) -> bool:
-        return self.random() * most < 1
 
     def node(self, deletes: bool) -> str:
         if self.one_in(30):
@@ -206,131 +156,13 @@ class Draw(random.Random):
     def schema(self) -> str:
         return "\n".join(self.definition() for _ in range(self.choice([1, 1, 2, 3])))
 
-    def asked_literal(self, predicate: str) -> str:
-        """A literal of a comparison: between quotes, or a number or a truth as it is."""
-        text = self.choice(VALUES.get(predicate, NUMBERS))
-        if self.one_in(12):
-            text = self.choice(self.choice([*VALUES.values(), NO_VALUES]))
-        bare = re.fullmatch("-?[0-9]+|true|false", text) and self.one_in(2)
-        return text if bare else f'"{text}"'
-
-    def edge(self) -> str:
-        """A predicate, now and then one of values or none, and now and then the other way round."""
-        name = self.choice(EDGES) if self.one_in(2) else self.predicate()
-        return f"~{name}" if self.one_in(3) else name
-
-    def predicate(self) -> str:
-        return "nick" if self.one_in(20) else self.choice(PREDICATES)
-
-    def comparison(self) -> str:
-        word = self.choice(["eq", "eq", "le", "lt", "ge", "gt", "between"])
-        of, predicate = f"count({self.edge()})", ""
-        if not self.one_in(4):
-            of = predicate = self.predicate()
-        often = 2 if word == "between" else self.choice([1, 1, 2, 3]) if word == "eq" else 1
-        texts = ["0", "1", "2", "-1", '"3"', "true"]
-        literals = [self.asked_literal(predicate) if predicate else self.choice(texts) for _ in range(often)]
-        said = ", ".join(literals)
-        return f"{word}({of}, [{said}])" if word == "eq" and self.one_in(3) else f"{word}({of}, {said})"
-
-    def pattern(self) -> str:
-        said = self.choice(BAD_PATTERNS if self.one_in(12) else PATTERNS)
-        return f"/{said}/{self.choice(['', 'i'])}"
-
-    def function(self, root: bool) -> str:
-        """A function of a query, without a variable."""
-        ways = ["uid", "uid", "uid", "comparison", "comparison", "has", "has", "has", "terms", "regexp"]
-        ways += [] if root else ["uid_in"]
-        way = self.choice(ways)
-        nodes = ", ".join(hex(self.choice([*NODES, 0xABD, 6])) for _ in range(self.choice([1, 2, 3, 6])))
-        texts = self.choice(["name", "name", "tags", "tags", self.predicate()])
-        return {
-            "uid": lambda: f"uid({nodes})",
-            "comparison": self.comparison,
-            "has": lambda: f"has({self.edge() if self.one_in(3) else self.predicate()})",
-            "terms": lambda: f'{self.choice(["anyofterms", "allofterms"])}({texts}, "{self.choice(TEXTS)}")',
-            "regexp": lambda: f"regexp({texts}, {self.pattern()})",
-            "uid_in": lambda: f"uid_in({self.edge()}, {nodes})",
-        }[way]()
-
-    def filter(self, depth: int = 2) -> str:
-        """A filter with brackets, so deep at most."""
-        if depth == 0 or self.one_in(2):
-            return self.choice(["", "", "not ", "NOT not "]) + self.function(False)
-        inner = self.choice([" and ", " or ", " Or "]).join(self.filter(depth - 1) for _ in range(2))
-        return self.choice(["({})", "({})", "not ({})", "{}"]).format(inner)
-
-    def argument(self, has_order: bool) -> str:
-        """An argument of a list that isn't ordered, or now and then of one that is; seldom one that can't stand there."""
-        least = 0 if has_order and not self.one_in(20) else -3
-        return self.choice(
-            [
-                f"first: {self.choice(range(least, 4))}",
-                f"offset: {self.choice(range(-1 if self.one_in(10) else 0, 4))}",
-                f"after: {hex(self.choice(NODES))}" if not has_order or self.one_in(20) else "offset: 1",
-            ]
-        )
-
-    def arguments(self) -> list[str]:
-        """The arguments of a list of nodes, now and then twice the same."""
-        orders = [f"{self.choice(['orderasc', 'orderdesc'])}: {self.predicate()}" for _ in range(self.choice([0, 0, 1, 2]))]
-        pages = [self.argument(bool(orders)) for _ in range(self.choice([0, 0, 1, 2]))]
-        if not self.one_in(20):
-            pages = list({page.partition(":")[0]: page for page in pages}.values())
-        said = orders + pages
-        self.shuffle(said)
-        return said
-
-    def list_directives(self, tested: float, words: list[str]) -> list[str]:
-        """The directives of a list: a filter of one in so many, and now and then each of these words, in any order."""
-        said = [f"@filter({self.filter()})"] if self.one_in(tested) else []
-        said += [word for word in words if self.one_in(3.5)]
-        self.shuffle(said)
-        return said
-
-    def edge_field(self, depth: int, has_few: bool, is_flat: bool) -> str:
-        """An edge with what stands behind it, so deep at most."""
-        arguments = self.arguments() if self.one_in(2) else []
-        brackets = f"({', '.join(arguments)})" if arguments or self.one_in(20) else ""
-        directives = self.list_directives(4, ["@cascade"])
-        few = has_few or "@cascade" in directives
-        braces = [] if self.one_in(15) else [f"{{ {self.fields(depth - 1, few, is_flat)} }}"]
-        edge = self.choice(EDGES) if (few or is_flat) and self.one_in(1.5) else self.edge()
-        return " ".join([edge + brackets, *directives, *braces])
-
-    def fields(self, depth: int, has_few: bool, is_flat: bool) -> str:
-        """Fields, seldom two under one key, with edges so deep at most; few in a cascade, since a node seldom has many, and in flat
-        objects more under an alias, of which some stand again at another depth."""
-        names = self.sample([*PREDICATES, "nick"], self.choice([0, 0, 1, 1] if has_few else [0, 1, 1, 2, 3, 6]))
-        names += [] if self.one_in(4) else ["uid"]
-        names += [f"count({self.choice(['uid', self.edge()])})"] if self.one_in(5) else []
-        same = ["uid: ", "name: "] if self.one_in(4) else []
-        aliases = self.sample(["n: ", "o:", "a: " if is_flat else "", *same, *[""] * (5 if is_flat else 12)], len(names))
-        said = [alias + name for alias, name in zip(aliases, names)]
-        edges = range(self.choice([0, 1, 1, 2] if has_few or is_flat else [0, 0, 1, 2]) if depth else 0)
-        said += [f"e{place}: {self.edge_field(depth, has_few, is_flat)}" for place in edges]
-        return self.choice([" ", ", "]).join(said)
-
-    def block(self, name: str) -> str:
-        root = self.function(True)
-        if self.one_in(30):
-            return f"{name}(func: {root}) {self.choice(OTHER_FORMS)}"
-        arguments = self.arguments() if self.one_in(3) else []
-        said = ", ".join([f"func: {root}", *arguments])
-        directives = self.list_directives(2.5, ["@cascade", "@normalize"])
-        shape = ("@cascade" in directives, "@normalize" in directives)
-        fields = self.fields(self.choice([0, 1, 2, 3] if any(shape) else [0, 0, 1, 2, 3]), *shape)
-        return " ".join([f"{name}({said})", *directives, f"{{ {fields} }}"])
-
-    def query(self) -> str:
-        if self.one_in(6):
-            node = hex(self.choice([*NODES, 0xABD, 6]))
-            return f"{{ q(func: uid({node})) {{ {self.choice([*PREDICATES, 'nick'])} }} }}"
-        if self.one_in(60):
-            return "{" * self.choice([1, 32, 33, 34])
-        names = self.sample(["q", "p", "r", "var", "x.y"], 0 if self.one_in(20) else self.choice([1, 1, 1, 2, 3]))
-        front = self.choice(["", "", "", "query ", "# asked\n"])
-        return f"{front}{{ {' '.join(self.block(name) for name in names)} }}"
+    def great_numbers(self) -> str:
+        """A mutation without a fault that sets numbers, many of them as great or as small as can be."""
+        lines = []
+        for node in self.sample(NODES, 3):
+            number = self.choice(["1", "-1", "9223372036854775807", "-9223372036854775808"])
+            lines.append(f'<{hex(node)}> <{self.choice(["age", "age", "nums"])}> "{number}" .')
+        return "\n".join(lines)
 
     def marred(self, text: str) -> bytes:
         """The text, or now and then one that differs in one place; patterns stay, since few are read here."""
@@ -417,6 +249,9 @@ def frames(draw: Draw) -> Iterator[bytes]:
             verb = "begin"
         if verb == "mutate":
             yield frame(f"mutate {session}", draw.marred(draw.mutation()))
+        elif verb == "query" and draw.one_in(20):
+            yield frame(f"mutate {session}", draw.great_numbers().encode())
+            yield frame(f"query {session}", draw.sums().encode())
         elif verb == "query":
             yield frame(f"query {session}", draw.marred(draw.query()))
         elif verb == "alter":

@@ -1,7 +1,8 @@
 #!/usr/bin/env python3
 """Prints the rows of crates/table_levels: `rows_levels.py stdin` the rows, `rows_levels.py stdout` with their answers.
 
-Graphs and queries are random. The answers come from `plain_levels.py`, which goes node by node over triples alone.
+Graphs and queries are random. The answers come from `plain_levels.py`, which goes node by node over triples alone. The rows of whole
+queries stand in `rows_variables.py` and, as soon as `@recurse` is built, in `rows_recursions.py`.
 """
 
 from __future__ import annotations
@@ -11,104 +12,19 @@ import sys
 from collections.abc import Iterator
 from typing import Optional
 
-from plain_answers import View
-from plain_graph import Definition, Graph
+import rows_recursions
+import rows_variables
+from plain_answers import RECURSION_IS_BUILT, View
 from plain_levels import LONGEST_ANSWER, Made, shown, whole
 from plain_queries import read_query
-from plain_values import NODE, Posting, read_posting
+from rows_graphs import RING, SCHEMA, graph_of, graph_rows, random_arguments, random_filter, random_function, random_triples
 from rows_printed import print_rows
 
 SEED = 31
-SCHEMA = {
-    "name": Definition("string", False, ("exact", "term")),
-    "nick": Definition("string", True),
-    "age": Definition("int", False, ("int",)),
-    "ok": Definition("bool", False),
-    "born": Definition("dateTime", False),
-    "friend": Definition("uid", True, (), True, True),
-    "likes": Definition("uid", True),
-    "boss": Definition("uid", False, (), True),
-}
-TEXT = (
-    "name: string @index(exact, term) . nick: [string] . age: int @index(int) . ok: bool . born: dateTime . "
-    "friend: [uid] @reverse @count . likes: [uid] . boss: uid @reverse ."
-)
-NODES = range(1, 9)
-RING = "next: [uid] @reverse ."
-
-
-def random_triples() -> list[str]:
-    """Triples as rows have them."""
-    said = []
-    for node in NODES:
-        if random.random() < 0.7:
-            said.append(f"{node} name text:{random.choice(['Ann', 'Bob', 'Cid', 'Ann Lee', 'é'])}")
-        said += [f"{node} nick text:{nick}" for nick in random.sample("xyz", random.randrange(3))]
-        if random.random() < 0.6:
-            said.append(f"{node} age int:{random.randrange(-3, 4)}")
-        if random.random() < 0.4:
-            said.append(f"{node} ok bool:{random.choice(['true', 'false'])}")
-        if random.random() < 0.3:
-            said.append(f"{node} born time:200{random.randrange(10)}-01-02")
-        said += [f"{node} friend {other}" for other in random.sample(NODES, random.randrange(5))]
-        said += [f"{node} likes {other}" for other in random.sample(NODES, random.randrange(3))]
-        if random.random() < 0.6:
-            said.append(f"{node} boss {random.choice(NODES)}")
-    return said
-
-
-def graph_of(triples: list[str]) -> Graph:
-    """The graph of triples, of which a later one of a predicate that is no list takes the place of an earlier one."""
-    graph: dict[tuple[str, int], frozenset[Posting]] = {}
-    for triple in triples:
-        subject, name, said = triple.split(" ", 2)
-        kind, colon, text = said.partition(":")
-        posting = read_posting({"text": "string", "time": "dateTime"}.get(kind, kind), text) if colon else Posting(NODE, int(said))
-        assert posting is not None
-        key = (name, int(subject))
-        graph[key] = frozenset({posting}) | (graph.get(key, frozenset()) if SCHEMA[name].is_list else frozenset())
-    return graph
-
 
 # ---------------------------------------------------------------------------------------------------
 # Queries
 # ---------------------------------------------------------------------------------------------------
-
-
-def random_function() -> str:
-    return random.choice(
-        [
-            f"uid({', '.join(hex(node) for node in random.sample(range(1, 10), random.randrange(1, 5)))})",
-            "has(name)",
-            "has(friend)",
-            f'eq(name, "{random.choice(["Ann", "Bob"])}")',
-            f"ge(age, {random.randrange(-3, 4)})",
-            "anyofterms(name, \"ann cid\")",
-            f"eq(count(friend), {random.randrange(4)})",
-        ]
-    )
-
-
-def random_filter() -> str:
-    functions = [random_function() for _ in range(random.randrange(1, 3))]
-    functions.append(f"uid_in({random.choice(['friend', 'boss', '~friend'])}, 0x{random.randrange(1, 9)})")
-    said = random.choice([" and ", " or "]).join(random.sample(functions, random.randrange(1, len(functions) + 1)))
-    return f"@filter({random.choice(['', '', 'not '])}({said}))"
-
-
-def random_arguments() -> str:
-    said = []
-    has_order = random.random() < 0.4
-    if has_order:
-        said += [f"{random.choice(['orderasc', 'orderdesc'])}: {name}" for name in random.sample(["name", "age", "ok", "nick", "born", "none"], random.randrange(1, 3))]
-    if random.random() < 0.3:
-        said.append(f"first: {random.randrange(0 if has_order else -3, 4)}")
-    if random.random() < 0.3:
-        said.append(f"offset: {random.randrange(3)}")
-    if random.random() < 0.2 and not has_order:
-        said.append(f"after: {hex(random.randrange(1, 9))}")
-    random.shuffle(said)
-    return f"({', '.join(said)})" if said else ""
 
 
 def random_edge(name: str, depth: int, cascades: float) -> str:
@@ -192,7 +108,7 @@ def nested(depth: int, fields: str, edge: str = "next") -> str:
 
 def ring_rows() -> Iterator[tuple[str, Optional[str]]]:
     """A graph in which each of many nodes leads to each: what is shown of it, or that it is too large, comes at once."""
-    yield f"schema\t{RING}", "1 declared"
+    yield f"schema\t{RING}", "2 declared"
     yield "ring\t200", "40000 triples"
     for depth in (1, 2, 3, 10, 28):
         yield f"size\t{nested(depth, 'none')}", "0 bytes"
@@ -209,7 +125,7 @@ def ring_rows() -> Iterator[tuple[str, Optional[str]]]:
 
 def cascade_ring_rows() -> Iterator[tuple[str, Optional[str]]]:
     """The same of a cascade: where the last nodes lack something, nothing is left of all."""
-    yield f"schema\t{RING}", "1 declared"
+    yield f"schema\t{RING}", "2 declared"
     yield "ring\t30", "900 triples"
     for depth in (1, 2, 10, 28):
         yield f"size\t{nested(depth, 'none', 'next @cascade')}", "0 bytes"
@@ -303,9 +219,8 @@ CASCADES = [
 
 def cascade_rows() -> Iterator[tuple[str, str]]:
     """Cascades at edges over the graph above, seen from three of its nodes."""
-    yield f"schema\t{TEXT}", f"{len(SCHEMA)} declared"
+    yield from graph_rows(CASCADE_TRIPLES)
     graph = graph_of(CASCADE_TRIPLES)
-    yield "set\t" + "\t".join(CASCADE_TRIPLES), f"{sum(map(len, graph.values()))} triples"
     for fields in CASCADES:
         text = f"{{ q(func: uid(0x1, 0x3, 0x6)) {{ {fields} }} }}"
         yield f"rows\t{text}", rows_text(rows_of(View(graph, SCHEMA), text))
@@ -330,17 +245,21 @@ def rows() -> Iterator[tuple[str, Optional[str]]]:
     for cascades in (0.0, 0.0, 0.0, 0.0, 0.4, 0.4):
         with_cascades = " with cascades" if cascades else ""
         yield f"# A random graph, and what queries{with_cascades} show of it. Wanted: tools/plain_levels.py, node by node.", ""
-        yield f"schema\t{TEXT}", f"{len(SCHEMA)} declared"
         triples = random_triples()
-        graph = graph_of(triples)
-        yield "set\t" + "\t".join(triples), f"{sum(map(len, graph.values()))} triples"
-        yield from random_rows(View(graph, SCHEMA), cascades)
+        yield from graph_rows(triples)
+        yield from random_rows(View(graph_of(triples), SCHEMA), cascades)
     yield "# Cascades of each kind. Wanted: tools/plain_levels.py, node by node.", ""
     yield from cascade_rows()
     yield "# A graph of 30 nodes with all edges between them, and cascades. Wanted: counted by hand.", ""
     yield from cascade_ring_rows()
+    yield from rows_variables.rows()
+    if RECURSION_IS_BUILT:
+        yield from rows_recursions.rows()
     yield "# A graph of 200 nodes with all edges between them. Wanted: counted by hand.", ""
     yield from ring_rows()
+    yield from rows_variables.ring_rows()
+    if RECURSION_IS_BUILT:
+        yield from rows_recursions.ring_rows()
     yield "# Rows that can't be read.", ""
     yield from ((row, None) for row in HAND)
 

@@ -118,7 +118,7 @@ TIPS = {
     ],
 }
 NO_LITERAL = Meaning(
-    "a literal that {0} is compared with is none of its kind, or a pattern is none",
+    "a literal that {0} is compared with is none of its kind, or a pattern is none, or a sum is of what are no numbers",
     "compare an int with 3, a bool with true, a dateTime with \"1993-05-19\", a count with a number; in a pattern `\\` "
     "stands before a sign that means itself, as in `/\\(/`",
 )
@@ -144,7 +144,7 @@ FORMS = {"alter": DEFINITION, "mutate": STATEMENT, "query": QUERY}
 # What is built where a request is answered 98.
 BUILT_FORMS = {
     "query": "built are queries as in `{ q(func: eq(name, \"Ann\"), first: 5) @filter(has(age)) { name friend { name } } }`: functions, "
-    "filters, edges, counts, orders, pages, @cascade and @normalize; no variables, aggregates and @recurse",
+    "filters, edges, counts, orders, pages, variables, aggregates, @cascade and @normalize; no @recurse",
 }
 BUILT_VERBS = f"built are {', '.join(verb.line for verb in BUILT)}"
 

@@ -19,6 +19,7 @@ from collections.abc import Iterable
 from pathlib import Path
 from typing import Optional, Union
 
+import plain_machine as plain
 from dgraph_shell.frames import parse_showable
 from dgraph_shell.program import DEFAULT_PROGRAM
 from dgraph_shell.replies import Reply, read_reply
@@ -102,6 +103,13 @@ def script(text: str) -> list[Request]:
 def frames(text: str) -> bytes:
     """The frames of a readable script."""
     return b"".join(request.frame() for request in script(text))
+
+
+def plain_reply(data: str, query: str) -> str:
+    """What is behind the first line of the plain machine's reply to a query behind a readable script; or a refusal."""
+    body = query.encode()
+    line, _, said = plain.run(frames(data) + b"query 1 %d\n%s\n" % (len(body), body)).replies[-1].decode().partition("\n")
+    return said.rstrip("\n") or line
 
 
 def unframed(data: bytes) -> str:

@@ -14,15 +14,28 @@ class Asked(unittest.TestCase):
     """What is asked over a few nodes."""
 
     def test_each_query_is_answered(self) -> None:
-        for query in bench.QUERIES:
-            requests = [*bench.load(query, 12 if query.sizes else 20), bench.frame("query 1", query.asked)]
+        for query in bench.ASKED:
+            size = 8 if query.sizes else 20
+            requests = [*bench.load(query, size), bench.frame("query 1", query.query(size))]
             done = plain.run(b"".join(requests))
             self.assertIsNone(done.fault, query.name)
             self.assertTrue(all(reply.startswith(b"ok ") for reply in done.replies[:-1]), query.name)
             self.assertRegex(done.replies[-1], b"\\A(ok query 1 [0-9]+\n|error 17 AnswerTooLarge\n\\Z)", query.name)
 
+    def test_each_recursion_is_answered_where_it_is_built(self) -> None:
+        with mock.patch("plain_answers.RECURSION_IS_BUILT", True):
+            for query in bench.RECURSIONS:
+                size = 6 if query.sizes else 20
+                requests = [*bench.load(query, size), bench.frame("query 1", query.query(size))]
+                reply = plain.run(b"".join(requests)).replies[-1]
+                self.assertRegex(reply, b"\\A(ok query 1 [0-9]+\n|error 17 AnswerTooLarge\n\\Z)", query.name)
+
+    def test_longest_queries_fit_into_a_body(self) -> None:
+        for query in bench.ASKED:
+            self.assertLessEqual(len(query.query(max(query.sizes, default=1))), 1_048_576, query.name)
+
     def test_names_are_told_apart(self) -> None:
-        names = [query.name for query in bench.QUERIES]
+        names = [query.name for query in (*bench.QUERIES, *bench.RECURSIONS)]
         self.assertEqual(len(set(names)), len(names))
 
     def test_statements_stand_in_bodies_of_so_many(self) -> None:

@@ -4,12 +4,13 @@ from __future__ import annotations
 
 import re
 import unittest
+from unittest import mock
 
 import plain_machine as plain
 from dgraph_shell.help import EXAMPLES
-from plain_answers import BadPattern, UnknownPattern, pattern_of
+from plain_patterns import BadPattern, UnknownPattern, pattern_of
 from plain_queries import Fault, read_query
-from tests.helpers import frames
+from tests.helpers import frames, plain_reply
 
 DATA = """alter
     name: string @index(term, trigram, exact) . age: int @index . tag: [string] . friend: [uid] @reverse @count .
@@ -27,9 +28,7 @@ class Answers(unittest.TestCase):
 
     def reply(self, query: str) -> str:
         """What is behind the first line of a reply, or a refusal."""
-        script = frames(DATA) + b"query 1 %d\n%s\n" % (len(query.encode()), query.encode())
-        line, _, body = plain.run(script).replies[-1].decode().partition("\n")
-        return body.rstrip("\n") or line
+        return plain_reply(DATA, query)
 
     def nodes(self, root: str, tested: str = "") -> list[int]:
         """The nodes of a block."""
@@ -95,7 +94,7 @@ class Answers(unittest.TestCase):
             "{ q(func: eq(bare, 1)) @cascade { name } !": "3 BadToken 41",
             "{" * 33 + "x": "5 TooDeep 32",
             "{ q(func: eq(bare, 1)) @cascade { name }": "4 BadSyntax 40",
-            "{ q(func: eq(bare, 1)) @cascade { name } r(func: uid(x)) { } }": "98 Unbuilt",
+            "{ q(func: eq(bare, 1)) @cascade { name } r(func: uid(x)) { } }": "6 UnknownVariable x",
             "{ q(func: eq(bare, 1)) @cascade { name } }": "9 NotIndexed bare eq",
             '{ q(func: eq(age, "x")) { uid } r(func: eq(bare, 1)) { uid } }': "9 NotIndexed bare eq",
             '{ q(func: eq(age, "x")) @filter(has(~boss)) { uid } }': "9 NotIndexed boss ~",
@@ -218,14 +217,14 @@ class Answers(unittest.TestCase):
             inner = self.reply(f"{{ q(func: has(name), first: 1) {{ friend ({arguments}) {{ uid }} }} }}")
             self.assertEqual(inner, f"error 11 BadPage {word}")
 
-    def test_forms_that_arent_built(self) -> None:
-        for form in ("{ x as age }", "{ val(x) }", "@cascade { val(x) }", "{ friend @cascade { x as name } }", "@normalize { n: val(x) }",
-                     "@recurse(depth: 2) { name }", "@filter(uid(x)) { uid }", "@filter(uid_in(boss, x)) { uid }"):
-            self.assertEqual(self.reply(f"{{ q(func: has(name)) {form} }}"), "error 98 Unbuilt", form)
-        for query in ("{ q() {} }", "{ x as q(func: has(name)) {} }", "{ q(func: has(name), orderasc: val(x)) {} }"):
-            self.assertEqual(self.reply(query), "error 98 Unbuilt", query)
+    def test_empty_brackets(self) -> None:
         by_itself = self.reply("{ q(func: has(name)) { name } }")
         self.assertEqual(self.reply("{ q(func: has(name)) { name() } }"), by_itself)
+
+    def test_recursion_is_refused_before_all_checks_as_long_as_it_isnt_built(self) -> None:
+        for query in ("{ q(func: has(name)) @recurse(depth: 2) { name } }", "{ q(func: uid(x)) { uid } r(func: has(name)) @recurse { } }"):
+            with mock.patch("plain_answers.RECURSION_IS_BUILT", False):
+                self.assertEqual(self.reply(query), "error 98 Unbuilt", query)
 
     def test_very_long_numbers(self) -> None:
         zeros = "0" * 10_000

@@ -8,10 +8,12 @@ from collections import Counter
 from typing import Optional
 
 import rows_levels as rows
-from plain_answers import View
+import rows_variables
+from plain_answers import View, view_of
 from plain_levels import along, block_objects, listed
-from plain_queries import Block, Count, CountUid, Directive, Edge, Field, Followed, Uid, read_query
+from plain_queries import Block, Count, CountUid, Directive, Edge, Field, Followed, Uid, Val, read_query
 from plain_tokens import Refusal
+from plain_values import json_text
 
 # Texts under their keys, in order.
 Object = list[tuple[str, str]]
@@ -27,6 +29,8 @@ def key_of(field: Field) -> str:
     if isinstance(item, (Count, Followed)):
         said = ("~" if item.edge.back else "") + item.edge.predicate
         return field.alias or (said if isinstance(item, Followed) else f"count({said})")
+    if isinstance(item, Val):
+        return field.alias or f"val({item.name})"
     return field.alias or {Uid: "uid", CountUid: "count"}[type(item)]
 
 
@@ -61,6 +65,8 @@ class ByFields:
     def is_there(self, field: Field, node: int) -> bool:
         """Whether a field isn't missing at a node."""
         item = field.item
+        if isinstance(item, Val):
+            return node in self.view.variables[item.name].values
         if not isinstance(item, Followed):
             return True
         sort = self.leads_to(item.edge)
@@ -89,6 +95,9 @@ class ByFields:
             return f'"{node:#x}"'
         if isinstance(item, Count):
             return str(self.view.ends(item.edge, node))
+        if isinstance(item, Val):
+            values = self.view.variables[item.name].values
+            return json_text(values[node]) if node in values else None
         if not isinstance(item, Followed):
             return None
         sort = self.leads_to(item.edge)
@@ -165,6 +174,25 @@ class Agreement(unittest.TestCase):
                 self.compare(view, rows.random_query(), met)
         random.setstate(drawn)
         for kind in ("cascade", "normalize", "cascade normalize", "below", "nothing"):
+            self.assertGreater(met[kind], 100, (kind, met))
+
+    def test_over_random_blocks_that_build_on_each_other(self) -> None:
+        drawn = random.getstate()
+        random.seed(79)
+        met: Counter[str] = Counter()
+        for _ in range(self.GRAPHS // 10):
+            graph = rows.graph_of(rows.random_triples())
+            for _ in range(self.QUERIES):
+                blocks = read_query(rows_variables.random_query())
+                view = view_of(graph, rows.SCHEMA, blocks)
+                for block in blocks:
+                    if block.function is not None:
+                        by_trees = list(block_objects(view, block))
+                        self.assertEqual(by_trees, ByFields(view).objects_of(block), block)
+                        met["shown" if by_trees else "nothing"] += 1
+                        met["values"] += '"val(' in "".join(by_trees)
+        random.setstate(drawn)
+        for kind in ("shown", "nothing", "values"):
             self.assertGreater(met[kind], 100, (kind, met))
 
     def compare(self, view: View, text: str, met: Counter[str]) -> None:

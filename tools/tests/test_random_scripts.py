@@ -14,12 +14,14 @@ from unittest import mock
 
 import plain_machine as plain
 import random_scripts as scripts
-from plain_answers import places_of
+from plain_answers import RECURSION_IS_BUILT
+from plain_checks import places_of, uses_at
 from plain_queries import FUNCTIONS, read_query
 from tests.helpers import SECONDS, TOOLS, InFolder
 
 BUILT = {f"ok {verb}" for verb in ("alter", "begin", "mutate", "query", "commit", "discard")}
-REFUSED = {f"error {number}" for number in (1, 2, 3, 4, 5, 9, 10, 11, 13, 14, 15, 19, 20, 22, 27, 98)}
+REFUSED = {f"error {number}" for number in (*range(1, 12), 13, 14, 15, 16, 19, 20, 22, 27, 98)}
+OF_RECURSION = {"error 12"} if RECURSION_IS_BUILT else set()
 COMPARE = [sys.executable, "-B", TOOLS / "random_scripts.py", "compare"]
 
 # A program that writes what it was told, says it, and ends so, however long that takes.
@@ -44,7 +46,7 @@ class Reach(unittest.TestCase):
             faults += done.fault is not None
             for reply in done.replies:
                 seen.add(b" ".join(reply.split(maxsplit=2)[:2]).decode())
-        self.assertEqual(seen, BUILT | REFUSED)
+        self.assertEqual(seen - {"error 17"}, BUILT | REFUSED | OF_RECURSION)
         self.assertGreater(faults, 5)
 
     def test_enough_replies_are_conflicts_by_each_kind_of_key(self) -> None:
@@ -108,8 +110,8 @@ class Reach(unittest.TestCase):
                     continue
                 shown += b"[{" in reply
                 for block in read_query(request.body.decode()):
-                    assert block.function is not None
-                    asked[f"root {block.function.word}"] += 1
+                    if block.function is not None:
+                        asked[f"root {block.function.word}"] += 1
                     tested = [place.function for place in places_of(block) if place.function is not None and not place.root]
                     asked.update(f"tested {function.word}" for function in tested)
         wanted = {f"{place} {word}" for place in ("root", "tested") for word in FUNCTIONS} - {"root uid_in"}
@@ -130,6 +132,32 @@ class Reach(unittest.TestCase):
                         shown["below"] += request.body.count(b"@cascade {")
         for word in ("cascade", "normalize", "below"):
             self.assertGreater(shown[word], 20, shown)
+
+    def test_variables_are_asked_and_shown(self) -> None:
+        met: Counter[str] = Counter()
+        for number in range(200):
+            done = plain.run(scripts.script(number))
+            for request, reply in zip(done.requests, done.replies):
+                if request.verb == "query" and reply.startswith(b"ok "):
+                    places = [place for block in read_query(request.body.decode()) for place in places_of(block)]
+                    for place in places:
+                        met["defined"] += place.defined is not None
+                        met["values"] += any(use.of_values for use in uses_at(place))
+                        met["nodes"] += any(not use.of_values for use in uses_at(place))
+                    met["shown"] += b'"val(' in reply
+                    met["aggregates"] += any(f'[{{"{word}(val('.encode() in reply for word in ("min", "max", "sum"))
+        for kind in ("defined", "values", "nodes", "shown", "aggregates"):
+            self.assertGreater(met[kind], 20, met)
+
+    def test_recursion_is_asked(self) -> None:
+        asked: Counter[str] = Counter()
+        for number in range(200):
+            done = plain.run(scripts.script(number))
+            for request, reply in zip(done.requests, done.replies):
+                if request.verb == "query" and b"@recurse" in request.body:
+                    asked[scripts.kind_of(reply)] += 1
+                    asked["shown"] += b"[{" in reply
+        self.assertGreater(asked["shown" if RECURSION_IS_BUILT else "error 98"], 20, asked)
 
     def test_many_sessions_write_the_same_nodes(self) -> None:
         done = plain.run(scripts.script(0))

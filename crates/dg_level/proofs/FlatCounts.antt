@@ -1,11 +1,12 @@
--- How many fields flat objects have together, and objects whose keys differ.
-use Rattle.std.proofs.Common.{◌≡◌, ℕ, ◌+◌, ◌<◌, ◌≤◌, Bool, true, false, cond, List, [], ◌∷◌, ◌++◌, map, flat_map, fold, length, take, drop, get_or, refl, sym, ap, ◌∙◌, arith, length-append, take-append-drop}
+-- How many bytes flat objects take at least, and objects whose keys differ.
+use Rattle.std.proofs.Common.{◌≡◌, ℕ, ◌+◌, ◌*◌, ◌<◌, ◌≤◌, Bool, true, false, cond, List, [], ◌∷◌, ◌++◌, map, flat_map, fold, length, take, drop, get_or, refl, sym, ap, ◌∙◌, arith, length-append, take-append-drop}
 use Rattle.std.specs.Prelude.{sum_by, count_by, filter, bytes_eq, not, ◌||◌}
+use Rattle.std.proofs.Math.Nat.{mul-zero, suc-mul}
 use Rattle.std.proofs.lemmas.List.Folds.{list_any-append}
 use Rattle.std.proofs.lemmas.Bool.Decides.{same_from_decides, Decides-like}
 use Rattle.std.proofs.lemmas.Slice.Eq.{bytes_eq-Decides}
 use Rattle.std.proofs.lemmas.Bool.{false≢true, true≢false}
-use Rattle.std.specs.List.{list_any, list_all, AllByRecursion}
+use Rattle.std.specs.List.{list_any, list_all}
 use Rattle.std.proofs.lemmas.List.{take_more, drop_more, get_or_at, length-map, length-take-le}
 use Rattle.std.proofs.lemmas.List.Sums.{sum_by-append, sum_by-cons, count_by-le-length}
 use Rattle.std.specs.declared.cmp.Ordering.{Ordering}
@@ -14,21 +15,27 @@ use Rattle.std.specs.Ordering.{nat_cmp}
 use Rattle.dg_values.specs.Ascending.{ascending, placed, with_one}
 use Rattle.dg_tree.specs.declared.tree.Field.{Field}
 use Rattle.dg_shape.specs.Normalize.{with_pair, joined, times, has_pair}
-use Rattle.dg_level.specs.Flats.{pairs_in, AreApartPairs, has_object}
+use Rattle.dg_level.specs.Flats.{weight, weight_in, AreApartPairs, AreAllApart, has_object}
 
--- ---- counts
+-- ---- weights
 
-pub pairs_first : (object : List Field) (objects : List (List Field)) → pairs_in (object ∷ objects) ≡ length object + pairs_in objects
-pairs_first object objects = sum_by-cons length object objects
+-- an object with no fewer fields is no lighter
+heavier : (object more : List Field) → length object ≤ length more → weight object ≤ weight more
+heavier [] more le = omega arith
+heavier (pair ∷ object) [] le = absurd (omega (arith, le))
+heavier (pair ∷ object) (other ∷ more) le = omega (arith, le)
 
-pub pairs_joined : (objects more : List (List Field)) → pairs_in (objects ++ more) ≡ pairs_in objects + pairs_in more
-pairs_joined objects more = sum_by-append length objects more
+pub weight_first : (object : List Field) (objects : List (List Field)) → weight_in (object ∷ objects) ≡ weight object + weight_in objects
+weight_first object objects = sum_by-cons weight object objects
+
+pub weight_joined : (objects more : List (List Field)) → weight_in (objects ++ more) ≡ weight_in objects + weight_in more
+weight_joined objects more = sum_by-append weight objects more
 
 -- ---- a loop that adds objects while there is room
 
 module _ {X : Type 0} (made : List X → List (List Field)) (joins : (xs more : List X) → made (xs ++ more) ≡ made xs ++ made more) (xs : List X) (i : ℕ) (x : X) (lt : i < length xs) (is : x ≡ get_or xs i x) where
   -- what there is no room for with one more there is no room for with all
-  pub none_for_all : (left room : ℕ) (one : List (List Field)) → made (x ∷ []) ≡ one → left + pairs_in (made (take i xs)) ≡ room → left < pairs_in one → room < pairs_in (made xs)
+  pub none_for_all : (left room : ℕ) (one : List (List Field)) → made (x ∷ []) ≡ one → left + weight_in (made (take i xs)) ≡ room → left < weight_in one → room < weight_in (made xs)
   none_for_all left room one this so above =
       let whole : take (i + 1) xs ++ drop (i + 1) xs ≡ xs = take-append-drop (i + 1) xs in
       let front : take (i + 1) xs ≡ take i xs ++ x ∷ [] = take_more xs i x lt ∙ ap (λ y. take i xs ++ y ∷ []) (sym is) in
@@ -36,27 +43,27 @@ module _ {X : Type 0} (made : List X → List (List Field)) (joins : (xs more : 
         arith,
         so,
         above,
-        ap pairs_in this,
-        ap (λ l. pairs_in (made l)) whole,
-        ap (λ l. pairs_in (made l)) front,
-        ap pairs_in (joins (take (i + 1) xs) (drop (i + 1) xs)),
-        ap pairs_in (joins (take i xs) (x ∷ [])),
-        pairs_joined (made (take (i + 1) xs)) (made (drop (i + 1) xs)),
-        pairs_joined (made (take i xs)) (made (x ∷ [])),
+        ap weight_in this,
+        ap (λ l. weight_in (made l)) whole,
+        ap (λ l. weight_in (made l)) front,
+        ap weight_in (joins (take (i + 1) xs) (drop (i + 1) xs)),
+        ap weight_in (joins (take i xs) (x ∷ [])),
+        weight_joined (made (take (i + 1) xs)) (made (drop (i + 1) xs)),
+        weight_joined (made (take i xs)) (made (x ∷ [])),
       )
 
   -- the room that is left after one more
-  pub left_for_more : (left now room : ℕ) (one : List (List Field)) → made (x ∷ []) ≡ one → left + pairs_in (made (take i xs)) ≡ room → now + pairs_in one ≡ left → now + pairs_in (made (take (i + 1) xs)) ≡ room
+  pub left_for_more : (left now room : ℕ) (one : List (List Field)) → made (x ∷ []) ≡ one → left + weight_in (made (take i xs)) ≡ room → now + weight_in one ≡ left → now + weight_in (made (take (i + 1) xs)) ≡ room
   left_for_more left now room one this so after =
       let front : take (i + 1) xs ≡ take i xs ++ x ∷ [] = take_more xs i x lt ∙ ap (λ y. take i xs ++ y ∷ []) (sym is) in
       omega (
         arith,
         so,
         after,
-        ap pairs_in this,
-        ap (λ l. pairs_in (made l)) front,
-        ap pairs_in (joins (take i xs) (x ∷ [])),
-        pairs_joined (made (take i xs)) (made (x ∷ [])),
+        ap weight_in this,
+        ap (λ l. weight_in (made l)) front,
+        ap weight_in (joins (take i xs) (x ∷ [])),
+        weight_joined (made (take i xs)) (made (x ∷ [])),
       )
 
 -- what stands at a place of a list that is changed up to that place
@@ -80,10 +87,10 @@ any_object now (part ∷ parts) = ap (λ has. has_object (now part) || has) (any
     by (object ∷ objects) more = refl
 
 -- objects without a field have none
-pub filled_pairs : (objects : List (List Field)) → pairs_in (filter has_pair objects) ≡ pairs_in objects
-filled_pairs [] = refl
-filled_pairs ([] ∷ objects) = omega (arith, pairs_first [] objects, filled_pairs objects)
-filled_pairs ((pair ∷ object) ∷ objects) = omega (arith, pairs_first (pair ∷ object) objects, pairs_first (pair ∷ object) (filter has_pair objects), filled_pairs objects)
+pub filled_weight : (objects : List (List Field)) → weight_in (filter has_pair objects) ≡ weight_in objects
+filled_weight [] = refl
+filled_weight ([] ∷ objects) = omega (arith, weight_first [] objects, filled_weight objects)
+filled_weight ((pair ∷ object) ∷ objects) = omega (arith, weight_first (pair ∷ object) objects, weight_first (pair ∷ object) (filter has_pair objects), filled_weight objects)
 
 -- and each that is left has a field
 pub filled_have : (objects : List (List Field)) → list_all has_pair (filter has_pair objects) ≡ true
@@ -141,9 +148,12 @@ with_longer object pair = by (has_key object pair.key)
     by false = omega (arith, length-append object (pair ∷ []))
 
 -- it has at least the fields that it had
-pub joined_longer : (object more : List Field) → length object ≤ length (joined object more)
+joined_longer : (object more : List Field) → length object ≤ length (joined object more)
 joined_longer object [] = omega arith
 joined_longer object (pair ∷ more) = omega (arith, with_longer object pair, joined_longer (with_pair object pair) more)
+
+pub joined_heavier : (object more : List Field) → weight object ≤ weight (joined object more)
+joined_heavier object more = heavier object (joined object more) (joined_longer object more)
 
 -- ---- at least the fields of the other
 
@@ -202,56 +212,68 @@ others_within object [] apart = omega (arith, count_by-le-length (λ (p : Field)
 others_within object (pair ∷ more) apart = omega (arith, others_with more pair apart.0 object, others_within (with_pair object pair) more apart.1)
 
 -- an object behind another has at least its fields, where their keys differ
-pub joined_holds : (object more : List Field) → AreApartPairs more → length more ≤ length (joined object more)
-joined_holds object more apart = omega (arith, others_within object more apart)
+pub joined_holds : (object more : List Field) → AreApartPairs more → weight more ≤ weight (joined object more)
+joined_holds object more apart = heavier more (joined object more) (omega (arith, others_within object more apart))
 
 -- ---- objects followed by others
 
--- each of these keeps its keys apart
-abbrev pub AreAllApart : List (List Field) → Type 0
-AreAllApart objects = AllByRecursion AreApartPairs objects
+heavier_each : (objects : List (List Field)) (other : List Field) → weight_in objects ≤ weight_in (map (λ object. joined object other) objects)
+heavier_each [] other = omega arith
+heavier_each (object ∷ objects) other =
+    omega (arith, weight_first object objects, weight_first (joined object other) (map (λ object. joined object other) objects), joined_heavier object other, heavier_each objects other)
 
-longer_each : (objects : List (List Field)) (other : List Field) → pairs_in objects ≤ pairs_in (map (λ object. joined object other) objects)
-longer_each [] other = omega arith
-longer_each (object ∷ objects) other =
-    omega (arith, pairs_first object objects, pairs_first (joined object other) (map (λ object. joined object other) objects), joined_longer object other, longer_each objects other)
+-- objects don't become lighter when each is joined with what is shown
+pub shown_heavier : (objects : List (List Field)) (shown : List Field) → weight_in objects ≤ weight_in (map (λ object. joined object shown) objects)
+shown_heavier objects shown = heavier_each objects shown
 
--- objects have no fewer fields when each is joined with what is shown
-pub shown_longer : (objects : List (List Field)) (shown : List Field) → pairs_in objects ≤ pairs_in (map (λ object. joined object shown) objects)
-shown_longer objects shown = longer_each objects shown
-
--- objects have no fewer fields when each is followed by each of others
-pub times_longer : (objects others : List (List Field)) → pairs_in objects ≤ pairs_in (times objects others)
-times_longer objects [] = omega arith
-times_longer objects (other ∷ others) = each objects
+-- nor when each is followed by each of others
+pub times_heavier : (objects others : List (List Field)) → weight_in objects ≤ weight_in (times objects others)
+times_heavier objects [] = omega arith
+times_heavier objects (other ∷ others) = each objects
   where
-    each : (objects : List (List Field)) → pairs_in objects ≤ pairs_in (flat_map (λ object. map (joined object) (other ∷ others)) objects)
+    each : (objects : List (List Field)) → weight_in objects ≤ weight_in (flat_map (λ object. map (joined object) (other ∷ others)) objects)
     each [] = omega arith
     each (object ∷ objects) =
         omega (
           arith,
-          pairs_first object objects,
-          pairs_joined (map (joined object) (other ∷ others)) (flat_map (λ object. map (joined object) (other ∷ others)) objects),
-          pairs_first (joined object other) (map (joined object) others),
-          joined_longer object other,
+          weight_first object objects,
+          weight_joined (map (joined object) (other ∷ others)) (flat_map (λ object. map (joined object) (other ∷ others)) objects),
+          weight_first (joined object other) (map (joined object) others),
+          joined_heavier object other,
           each objects,
         )
 
-holds_each : (object : List Field) (others : List (List Field)) → AreAllApart others → pairs_in others ≤ pairs_in (map (joined object) others)
+holds_each : (object : List Field) (others : List (List Field)) → AreAllApart others → weight_in others ≤ weight_in (map (joined object) others)
 holds_each object [] apart = omega arith
 holds_each object (other ∷ others) apart =
-    omega (arith, pairs_first other others, pairs_first (joined object other) (map (joined object) others), joined_holds object other apart.0, holds_each object others apart.1)
+    omega (arith, weight_first other others, weight_first (joined object other) (map (joined object) others), joined_holds object other apart.0, holds_each object others apart.1)
 
--- the others have no more fields than objects that are followed by them, where there is one and each of the others has its keys apart
-pub times_holds : (objects others : List (List Field)) → has_object objects ≡ true → AreAllApart others → pairs_in others ≤ pairs_in (times objects others)
+-- the others are no heavier than objects that are followed by them, where there is one and each of the others has its keys apart
+pub times_holds : (objects others : List (List Field)) → has_object objects ≡ true → AreAllApart others → weight_in others ≤ weight_in (times objects others)
 times_holds [] others has apart = absurd (false≢true has)
 times_holds (object ∷ objects) [] has apart = omega arith
 times_holds (object ∷ objects) (other ∷ others) has apart =
     omega (
       arith,
-      pairs_joined (map (joined object) (other ∷ others)) (flat_map (λ object. map (joined object) (other ∷ others)) objects),
+      weight_joined (map (joined object) (other ∷ others)) (flat_map (λ object. map (joined object) (other ∷ others)) objects),
       holds_each object (other ∷ others) apart,
     )
+
+-- so they are as often as there are objects
+pub times_many : (objects others : List (List Field)) → AreAllApart others → length objects * weight_in others ≤ weight_in (times objects others)
+times_many objects [] apart = omega (arith, mul-zero (length objects))
+times_many objects (other ∷ others) apart = each objects
+  where
+    each : (objects : List (List Field)) → length objects * weight_in (other ∷ others) ≤ weight_in (flat_map (λ object. map (joined object) (other ∷ others)) objects)
+    each [] = omega arith
+    each (object ∷ objects) =
+        omega (
+          arith,
+          suc-mul (length objects) (weight_in (other ∷ others)),
+          weight_joined (map (joined object) (other ∷ others)) (flat_map (λ object. map (joined object) (other ∷ others)) objects),
+          holds_each object (other ∷ others) apart,
+          each objects,
+        )
 
 -- ---- there is an object still
 
@@ -298,28 +320,28 @@ nodes_apart flats (n ∷ nodes) each = all_apart_joined (flats n) (flat_map flat
 
 -- ---- a level, each node once
 
-pub pairs_of_list : (flats : ℕ → List (List Field)) (nodes : List ℕ) → pairs_in (flat_map flats nodes) ≡ sum_by (λ n. pairs_in (flats n)) nodes
-pairs_of_list flats [] = refl
-pairs_of_list flats (n ∷ nodes) = omega (arith, pairs_joined (flats n) (flat_map flats nodes), pairs_of_list flats nodes, sum_by-cons (λ n. pairs_in (flats n)) n nodes)
+pub weight_of_list : (flats : ℕ → List (List Field)) (nodes : List ℕ) → weight_in (flat_map flats nodes) ≡ sum_by (λ n. weight_in (flats n)) nodes
+weight_of_list flats [] = refl
+weight_of_list flats (n ∷ nodes) = omega (arith, weight_joined (flats n) (flat_map flats nodes), weight_of_list flats nodes, sum_by-cons (λ n. weight_in (flats n)) n nodes)
 
 module _ (flats : ℕ → List (List Field)) where
   all : List ℕ → ℕ
-  all nodes = sum_by (λ n. pairs_in (flats n)) nodes
+  all nodes = sum_by (λ n. weight_in (flats n)) nodes
 
-  all_first : (n : ℕ) (nodes : List ℕ) → all (n ∷ nodes) ≡ pairs_in (flats n) + all nodes
+  all_first : (n : ℕ) (nodes : List ℕ) → all (n ∷ nodes) ≡ weight_in (flats n) + all nodes
   unfolding all
-  all_first n nodes = sum_by-cons (λ n. pairs_in (flats n)) n nodes
+  all_first n nodes = sum_by-cons (λ n. weight_in (flats n)) n nodes
 
   none : all [] ≡ 0
   unfolding all
   none = refl
 
-  one_more : (nodes : List ℕ) (n : ℕ) → all (with_one nat_cmp nodes n) ≤ all nodes + pairs_in (flats n)
+  one_more : (nodes : List ℕ) (n : ℕ) → all (with_one nat_cmp nodes n) ≤ all nodes + weight_in (flats n)
   one_more [] n = omega (arith, all_first n [])
   one_more (m ∷ nodes) n = by (nat_cmp n m) (one_more nodes n)
     where
-      by : (v : Ordering) → all (with_one nat_cmp nodes n) ≤ all nodes + pairs_in (flats n)
-          → all (placed v n m nodes (with_one nat_cmp nodes n)) ≤ all (m ∷ nodes) + pairs_in (flats n)
+      by : (v : Ordering) → all (with_one nat_cmp nodes n) ≤ all nodes + weight_in (flats n)
+          → all (placed v n m nodes (with_one nat_cmp nodes n)) ≤ all (m ∷ nodes) + weight_in (flats n)
       by Less rest = omega (arith, all_first n (m ∷ nodes))
       by Equal rest = omega arith
       by Greater rest = omega (arith, rest, all_first m (with_one nat_cmp nodes n), all_first m nodes)
@@ -331,35 +353,35 @@ module _ (flats : ℕ → List (List Field)) where
   once : (nodes : List ℕ) → all (ascending nat_cmp nodes) ≤ all nodes
   once nodes = omega (arith, more [] nodes, none)
 
-  -- a level has no more fields than the list from which it was gathered
-  pub level_of_list : (nodes : List ℕ) → sum_by (λ n. pairs_in (flats n)) (ascending nat_cmp nodes) ≤ pairs_in (flat_map flats nodes)
+  -- a level is no heavier than the list from which it was gathered
+  pub level_of_list : (nodes : List ℕ) → sum_by (λ n. weight_in (flats n)) (ascending nat_cmp nodes) ≤ weight_in (flat_map flats nodes)
   unfolding all
-  level_of_list nodes = omega (arith, once nodes, pairs_of_list flats nodes)
+  level_of_list nodes = omega (arith, once nodes, weight_of_list flats nodes)
 
   module _ {X : Type 0} (list_of : X → List ℕ) where
     -- the nodes of all lists, as often as they are there
-    all_lists : (xs : List X) → all (flat_map list_of xs) ≡ sum_by (λ x. pairs_in (flat_map flats (list_of x))) xs
+    all_lists : (xs : List X) → all (flat_map list_of xs) ≡ sum_by (λ x. weight_in (flat_map flats (list_of x))) xs
     unfolding all
     all_lists [] = refl
     all_lists (x ∷ xs) =
         omega (
           arith,
-          sum_by-append (λ n. pairs_in (flats n)) (list_of x) (flat_map list_of xs),
-          pairs_of_list flats (list_of x),
+          sum_by-append (λ n. weight_in (flats n)) (list_of x) (flat_map list_of xs),
+          weight_of_list flats (list_of x),
           all_lists xs,
-          sum_by-cons (λ x. pairs_in (flat_map flats (list_of x))) x xs,
+          sum_by-cons (λ x. weight_in (flat_map flats (list_of x))) x xs,
         )
 
-    -- a level has no more fields than the lists from which it was gathered
-    pub level_pairs : (xs : List X) → sum_by (λ n. pairs_in (flats n)) (ascending nat_cmp (flat_map list_of xs)) ≤ sum_by (λ x. pairs_in (flat_map flats (list_of x))) xs
+    -- a level is no heavier than the lists from which it was gathered
+    pub level_weight : (xs : List X) → sum_by (λ n. weight_in (flats n)) (ascending nat_cmp (flat_map list_of xs)) ≤ sum_by (λ x. weight_in (flat_map flats (list_of x))) xs
     unfolding all
-    level_pairs xs = omega (arith, once (flat_map list_of xs), all_lists xs)
+    level_weight xs = omega (arith, once (flat_map list_of xs), all_lists xs)
 
     -- nor than the objects that these lists' nodes stand in
-    pub level_within : (upper : X → List (List Field)) → ((x : X) → pairs_in (flat_map flats (list_of x)) ≤ pairs_in (upper x)) → (xs : List X)
-        → sum_by (λ n. pairs_in (flats n)) (ascending nat_cmp (flat_map list_of xs)) ≤ sum_by (λ x. pairs_in (upper x)) xs
-    level_within upper each xs = omega (arith, level_pairs xs, each_within xs)
+    pub level_within : (upper : X → List (List Field)) → ((x : X) → weight_in (flat_map flats (list_of x)) ≤ weight_in (upper x)) → (xs : List X)
+        → sum_by (λ n. weight_in (flats n)) (ascending nat_cmp (flat_map list_of xs)) ≤ sum_by (λ x. weight_in (upper x)) xs
+    level_within upper each xs = omega (arith, level_weight xs, each_within xs)
       where
-        each_within : (xs : List X) → sum_by (λ x. pairs_in (flat_map flats (list_of x))) xs ≤ sum_by (λ x. pairs_in (upper x)) xs
+        each_within : (xs : List X) → sum_by (λ x. weight_in (flat_map flats (list_of x))) xs ≤ sum_by (λ x. weight_in (upper x)) xs
         each_within [] = omega arith
-        each_within (x ∷ xs) = omega (arith, sum_by-cons (λ x. pairs_in (flat_map flats (list_of x))) x xs, sum_by-cons (λ x. pairs_in (upper x)) x xs, each x, each_within xs)
+        each_within (x ∷ xs) = omega (arith, sum_by-cons (λ x. weight_in (flat_map flats (list_of x))) x xs, sum_by-cons (λ x. weight_in (upper x)) x xs, each x, each_within xs)

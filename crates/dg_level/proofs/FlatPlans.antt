@@ -25,10 +25,10 @@ use Rattle.dg_level.specs.Answers.{shown}
 use Rattle.dg_level.specs.Shown.{sort_of, under, edge_shown, edge_flats, cascades, behind}
 use Rattle.dg_level.specs.Planned.{PlannedItem, PlannedField, is_single, edge_kept, edge_kept_flats, trees_by, item_flats, step_of_item, step_of_field, planned_field, after_by, planned_flats}
 use Rattle.dg_level.specs.Levels.{planned_item, trees_of, left_of, leads_to_nodes, own_shown, bare_trees}
-use Rattle.dg_level.specs.Flats.{pairs_in, has_object}
+use Rattle.dg_level.specs.Flats.{weight_in, has_object, AreAllApart}
 use Rattle.dg_level.specs.FlatLevels.{FlatsOf, own_trees, with_own, sort_in, behind_edge, behind_item, behind_field, behind_fields}
 use Rattle.dg_level.proofs.PlannedLaws.{field_after}
-use Rattle.dg_level.proofs.FlatCounts.{AreAllApart, shown_longer, times_longer, shown_has, times_has, shown_apart, filled_apart, times_apart}
+use Rattle.dg_level.proofs.FlatCounts.{shown_heavier, times_heavier, shown_has, times_has, shown_apart, filled_apart, times_apart}
 use Rattle.dg_level.proofs.FlatTurns.{joined_none}
 
 -- ---- behind a field that leads to no nodes
@@ -149,12 +149,12 @@ module _ (schema : List PredDef) (graph : List Triple) (vars : List Variable) wh
         → behind_field schema graph vars cascade q k n before ≡ behind_item schema graph vars (is_single (sort_in schema (out-QItem q.item))) cascade (out-QItem q.item) (out-Item k.item) n before
     field_nodes some = by_layer ∙ layer_nodes q.alias (item_key q.item) n before cascade k.item (out-QItem q.item) some
 
--- ---- objects never become fewer fields, and keep their keys apart
+-- ---- objects never become lighter, and keep their keys apart
 
-longer : (alias : Bool) (shown : List Field) (flats : Option (List (List Field))) (before : List (List Field)) → pairs_in before ≤ pairs_in (behind alias shown flats before)
-longer true shown None before = shown_longer before shown
-longer false shown None before = omega arith
-longer alias shown (Some flats) before = times_longer before flats
+heavier : (alias : Bool) (shown : List Field) (flats : Option (List (List Field))) (before : List (List Field)) → weight_in before ≤ weight_in (behind alias shown flats before)
+heavier true shown None before = shown_heavier before shown
+heavier false shown None before = omega arith
+heavier alias shown (Some flats) before = times_heavier before flats
 
 has_still : (alias : Bool) (shown : List Field) (flats : Option (List (List Field))) (before : List (List Field)) → has_object before ≡ true → has_object (behind alias shown flats before) ≡ true
 has_still true shown None before has = shown_has before shown has
@@ -167,12 +167,12 @@ apart_still false shown None before apart = apart
 apart_still alias shown (Some flats) before apart = times_apart before flats apart
 
 module _ (schema : List PredDef) (graph : List Triple) (vars : List Variable) (cascade : Bool) where
-  field_longer : (q : QField) (k : Kept) (n : ℕ) (before : List (List Field)) → pairs_in before ≤ pairs_in (behind_field schema graph vars cascade q k n before)
-  field_longer q k n before =
+  field_heavier : (q : QField) (k : Kept) (n : ℕ) (before : List (List Field)) → weight_in before ≤ weight_in (behind_field schema graph vars cascade q k n before)
+  field_heavier q k n before =
       omega (
         arith,
-        longer (is_some q.alias) (map (under (key_of q)) (trees_of schema graph vars cascade q.item k.item n)) ((planned_item schema graph vars q.item).flats cascade k.item n) before,
-        ap pairs_in (field_after schema graph vars q cascade k n before),
+        heavier (is_some q.alias) (map (under (key_of q)) (trees_of schema graph vars cascade q.item k.item n)) ((planned_item schema graph vars q.item).flats cascade k.item n) before,
+        ap weight_in (field_after schema graph vars q cascade k n before),
       )
 
   field_has : (q : QField) (k : Kept) (n : ℕ) (before : List (List Field)) → has_object before ≡ true → has_object (behind_field schema graph vars cascade q k n before) ≡ true
@@ -190,10 +190,10 @@ module _ (schema : List PredDef) (graph : List Triple) (vars : List Variable) (c
   abbrev after : List QField → List Kept → ℕ → List (List Field) → List (List Field)
   after fields kept n before = after_by (map (planned_field schema graph vars) fields) cascade kept n before
 
-  after_longer : (fields : List QField) (kept : List Kept) (n : ℕ) (before : List (List Field)) → pairs_in before ≤ pairs_in (after fields kept n before)
-  after_longer [] kept n before = omega arith
-  after_longer (q ∷ fields) [] n before = omega arith
-  after_longer (q ∷ fields) (k ∷ kept) n before = omega (arith, field_longer q k n before, after_longer fields kept n (behind_field schema graph vars cascade q k n before))
+  after_heavier : (fields : List QField) (kept : List Kept) (n : ℕ) (before : List (List Field)) → weight_in before ≤ weight_in (after fields kept n before)
+  after_heavier [] kept n before = omega arith
+  after_heavier (q ∷ fields) [] n before = omega arith
+  after_heavier (q ∷ fields) (k ∷ kept) n before = omega (arith, field_heavier q k n before, after_heavier fields kept n (behind_field schema graph vars cascade q k n before))
 
   pub after_has : (fields : List QField) (kept : List Kept) (n : ℕ) (before : List (List Field)) → has_object before ≡ true → has_object (after fields kept n before) ≡ true
   after_has [] kept n before has = has
@@ -227,13 +227,13 @@ module _ (schema : List PredDef) (graph : List Triple) (vars : List Variable) (c
       ∙ after_next fields kept i q k n ([] ∷ []) lt lk
       ∙ sym (λ j. behind_field schema graph vars cascade (is j) (has j) n (after (take i fields) (take i kept) n ([] ∷ [])))
 
-  -- no more fields than behind all
-  pub after_front : (fields : List QField) (kept : List Kept) (i n : ℕ) (before : List (List Field)) → pairs_in (after (take i fields) (take i kept) n before) ≤ pairs_in (after fields kept n before)
+  -- no heavier than behind all
+  pub after_front : (fields : List QField) (kept : List Kept) (i n : ℕ) (before : List (List Field)) → weight_in (after (take i fields) (take i kept) n before) ≤ weight_in (after fields kept n before)
   after_front [] kept zero n before = omega arith
   after_front [] kept (suc i) n before = omega arith
   after_front (q ∷ fields) [] zero n before = omega arith
   after_front (q ∷ fields) [] (suc i) n before = omega arith
-  after_front (q ∷ fields) (k ∷ kept) zero n before = after_longer (q ∷ fields) (k ∷ kept) n before
+  after_front (q ∷ fields) (k ∷ kept) zero n before = after_heavier (q ∷ fields) (k ∷ kept) n before
   after_front (q ∷ fields) (k ∷ kept) (suc i) n before = after_front fields kept i n (behind_field schema graph vars cascade q k n before)
 
   pub after_ended : (fields : List QField) (kept : List Kept) (i n : ℕ) (before : List (List Field)) → length fields ≤ i → after (take i fields) (take i kept) n before ≡ after fields kept n before

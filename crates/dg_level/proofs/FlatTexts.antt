@@ -1,8 +1,8 @@
 -- The texts of flat objects.
-use Rattle.std.proofs.Common.{◌≡◌, ℕ, zero, suc, ◌+◌, ◌<◌, ◌≤◌, ◌*◌, ◌/◌, ◌%◌, Bool, true, false, List, [], ◌∷◌, ◌++◌, map, length, take, drop, get_or, codes, cond, refl, sym, ap, subst, ◌∙◌, arith, length-append, append_assoc, take-append-drop}
+use Rattle.std.proofs.Common.{◌≡◌, ℕ, zero, suc, ◌+◌, ◌<◌, ◌≤◌, ◌*◌, ◌/◌, ◌%◌, Bool, true, false, List, [], ◌∷◌, ◌++◌, map, flat_map, length, take, drop, get_or, codes, cond, refl, sym, ap, subst, ◌∙◌, arith, length-append, append_assoc, take-append-drop}
 use Rattle.std.specs.Prelude.{pos, negsuc, ◌==◌}
 use Rattle.std.specs.Fmt.{decimal, digits, digits_onto, digit_glyph}
-use Rattle.std.proofs.lemmas.List.{map-append, take_more}
+use Rattle.std.proofs.lemmas.List.{map-append, length-map, take_more}
 use Rattle.json.specs.Print.{quoted, escape}
 use Rattle.dg_tree.specs.declared.tree.Field.{Field}
 use Rattle.dg_tree.specs.declared.tree.Tree.{Tree, Tree-F}
@@ -11,10 +11,10 @@ use Rattle.dg_tree.specs.declared.tree.Tree.TheVariants as trees
 use Rattle.dg_tree.specs.Texts.{with_commas, array_text, key_text, text_of_tree, text_of_field, tree_text, field_text}
 use Rattle.dg_level.specs.Parts.{parts_text}
 use Rattle.dg_level.specs.Rows.{total, row_text}
-use Rattle.dg_level.specs.Flats.{pairs_in, flat_texts}
-use Rattle.dg_level.proofs.RowLaws.{total_first, text_of, fields_within, node_text, items_within}
+use Rattle.dg_level.specs.Flats.{weight, weight_in, flat_texts}
+use Rattle.dg_level.proofs.RowLaws.{total_first, text_of, node_text}
 use Rattle.dg_level.proofs.PartLaws.{parts_all}
-use Rattle.dg_level.proofs.FlatCounts.{pairs_first}
+use Rattle.dg_level.proofs.FlatCounts.{weight_first}
 
 pub texts_joined : (objects more : List (List Field)) → flat_texts (objects ++ more) ≡ flat_texts objects ++ flat_texts more
 texts_joined objects more = ap (map tree_text) (map-append trees.Node objects more) ∙ map-append tree_text (map trees.Node objects) (map trees.Node more)
@@ -102,21 +102,40 @@ fields_four : (fields : List Field) → 4 * length fields ≤ total (map field_t
 fields_four [] = omega arith
 fields_four (field ∷ fields) = omega (arith, field_four field, total_first (field_text field) (map field_text fields), fields_four fields)
 
-object_four : (object : List Field) → 4 * length object ≤ length (tree_text (trees.Node object))
-object_four object =
+-- texts with commas between them have a byte more for each but the last
+commas_within : (texts : List (List ℕ)) → total texts + length texts ≤ length (with_commas texts) + 1
+commas_within [] = omega arith
+commas_within (text ∷ texts) = omega (arith, total_first text texts, length-append text (flat_map (λ part. codes "," ++ part) texts), behind texts)
+  where
+    behind : (texts : List (List ℕ)) → total texts + length texts ≤ length (flat_map (λ part. codes "," ++ part) texts)
+    behind [] = omega arith
+    behind (text ∷ texts) = omega (arith, total_first text texts, length-append (codes "," ++ text) (flat_map (λ part. codes "," ++ part) texts), length-append (codes ",") text, behind texts)
+
+-- an object has its weight, with the comma behind it
+object_weight : (object : List Field) → weight object ≤ length (tree_text (trees.Node object)) + 1
+object_weight [] = omega arith
+object_weight (field ∷ fields) =
     omega (
       arith,
-      ap length (node_text object),
-      length-append (codes "{") (row_text object ++ codes "}"),
-      length-append (row_text object) (codes "}"),
-      fields_within object,
-      fields_four object,
+      ap length (node_text (field ∷ fields)),
+      length-append (codes "{") (row_text (field ∷ fields) ++ codes "}"),
+      length-append (row_text (field ∷ fields)) (codes "}"),
+      commas_within (map field_text (field ∷ fields)),
+      length-map (field ∷ fields) field_text,
+      fields_four (field ∷ fields),
     )
 
-objects_four : (objects : List (List Field)) → 4 * pairs_in objects ≤ total (flat_texts objects)
-objects_four [] = omega arith
-objects_four (object ∷ objects) = omega (arith, pairs_first object objects, total_first (tree_text (trees.Node object)) (flat_texts objects), object_four object, objects_four objects)
+objects_weight : (objects : List (List Field)) → weight_in objects ≤ total (flat_texts objects) + length (flat_texts objects)
+objects_weight [] = omega arith
+objects_weight (object ∷ objects) = omega (arith, weight_first object objects, total_first (tree_text (trees.Node object)) (flat_texts objects), object_weight object, objects_weight objects)
 
--- an array of objects has four bytes and more for each of their fields
-pub four_for_each : (objects : List (List Field)) → 4 * pairs_in objects ≤ length (array_text (map tree_text (map trees.Node objects)))
-four_for_each objects = omega (arith, objects_four objects, items_within (flat_texts objects))
+-- an array of objects has at least the bytes that they weigh
+pub weight_for_each : (objects : List (List Field)) → weight_in objects ≤ length (array_text (map tree_text (map trees.Node objects)))
+weight_for_each objects =
+    omega (
+      arith,
+      objects_weight objects,
+      commas_within (flat_texts objects),
+      length-append (codes "[") (with_commas (flat_texts objects) ++ codes "]"),
+      length-append (with_commas (flat_texts objects)) (codes "]"),
+    )

@@ -124,7 +124,8 @@ module _ (schema : List PredDef) (ds : List Definition) (graph : List Triple) (v
           one_node schema graph e.pred n lawful.single which.1,
         )
 
-    cut_alike : (n : ℕ) → cut_to (is_single (sort_of (definition_of schema e.pred) e.back)) (planned_list graph vars e args by_keys filters n) ≡ children graph ds vars e args dirs n
+    -- of a single edge one node at most
+    pub cut_alike : (n : ℕ) → cut_to (is_single (sort_of (definition_of schema e.pred) e.back)) (planned_list graph vars e args by_keys filters n) ≡ children graph ds vars e args dirs n
     cut_alike n =
         ap (cut_to (is_single (sort_of (definition_of schema e.pred) e.back))) (list_alike n)
         ∙ cut_same (is_single (sort_of (definition_of schema e.pred) e.back)) (children graph ds vars e args dirs n) (λ single. short_list single n)

@@ -1,5 +1,5 @@
 -- What a query answers, by its text.
-use Rattle.std.specs.Prelude.{ℕ, true, false, Bool, if◌then◌else◌, List, [], ◌∷◌, Option, Some, None, map, flat_map, codes}
+use Rattle.std.specs.Prelude.{ℕ, true, false, Bool, if◌then◌else◌, List, [], ◌∷◌, Option, Some, None, is_none, map, flat_map, codes}
 use Rattle.std.specs.List.{list_any}
 use Rattle.std.specs.Str.{bytes_eq}
 use Rattle.dg_schema.specs.declared.definition.PredDef.{PredDef}
@@ -8,15 +8,14 @@ use Rattle.dg_parse.specs.declared.query.QBlock.{QBlock}
 use Rattle.dg_parse.specs.declared.query.QDir.{QDir}
 use Rattle.dg_parse.specs.declared.query.QDir.TheVariants as dirs
 use Rattle.dg_parse.specs.declared.query.QFunc.{QFunc}
-use Rattle.dg_parse.specs.declared.query.Query.{Query}
 use Rattle.dg_check.specs.declared.vars.Variable.{Variable}
-use Rattle.dg_check.specs.Places.{places_of_query}
-use Rattle.dg_check.specs.Variables.{Definition, definitions_in, names_for}
+use Rattle.dg_check.specs.Variables.{Definition, names_for}
 use Rattle.dg_funcs.specs.Meaning.{text_root_nodes}
 use Rattle.dg_shape.specs.Orders.{ordered, page}
 use Rattle.dg_tree.specs.declared.tree.Tree.{Tree}
 use Rattle.dg_tree.specs.declared.tree.Tree.TheVariants as trees
 use Rattle.dg_tree.specs.declared.tree.Field.{Field}
+use Rattle.dg_level.specs.Aggregates.{aggregates_shown}
 use Rattle.dg_level.specs.Lists.{keys_for, passed_all}
 use Rattle.dg_level.specs.Shown.{under, list_shown, cascades, remaining, counts_in, fields_at, whole_at, objects_at}
 
@@ -64,15 +63,15 @@ array_shown schema graph ds vars block nodes = trees.Array (if list_any is_norma
 abbrev pub nodes_shown : List PredDef → List Triple → List Definition → List Variable → QBlock → List ℕ → Field
 nodes_shown schema graph ds vars block nodes = under block.name (array_shown schema graph ds vars block nodes)
 
--- what a block shows
+-- what a block shows under its name: aggregates of variables where it has no function, and else what the nodes of its list show
+abbrev pub block_tree : List PredDef → List Triple → List Definition → List Variable → QBlock → Field
+block_tree schema graph ds vars block =
+    if is_none block.func then under block.name (trees.Array (aggregates_shown ds vars block.fields)) else nodes_shown schema graph ds vars block (left_of_block schema graph ds vars block (nodes_of_block graph ds vars block))
+
+-- the same, unless it is hidden
 abbrev pub block_shown : List PredDef → List Triple → List Definition → List Variable → QBlock → List Field
-block_shown schema graph ds vars block = if is_hidden block then [] else nodes_shown schema graph ds vars block (left_of_block schema graph ds vars block (nodes_of_block graph ds vars block)) ∷ []
+block_shown schema graph ds vars block = if is_hidden block then [] else block_tree schema graph ds vars block ∷ []
 
 -- what blocks show, in their order
 abbrev pub blocks_shown : List PredDef → List Triple → List Definition → List Variable → List QBlock → List Field
 blocks_shown schema graph ds vars blocks = flat_map (block_shown schema graph ds vars) blocks
-
--- what a query answers: its blocks in the order of the text, without those that are hidden. It is for the queries that
--- `is_built` tells: no variable has a value, and nothing recurs.
-abbrev pub answer_of : List PredDef → List Triple → Query → List Field
-answer_of schema graph query = blocks_shown schema graph (definitions_in schema (places_of_query query)) [] query.blocks

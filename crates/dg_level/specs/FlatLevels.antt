@@ -26,15 +26,15 @@ use Rattle.dg_level.specs.Shown.{sort_of, under, cascades}
 use Rattle.dg_level.specs.Planned.{value_kept, planned_field, after_by, planned_flats}
 use Rattle.dg_level.specs.Columns.{TreesOf}
 use Rattle.dg_level.specs.Levels.{left_of, bare_trees}
-use Rattle.dg_level.specs.Flats.{pairs_in}
+use Rattle.dg_level.specs.Flats.{weight_in}
 
 -- the flat objects of each node
 abbrev pub FlatsOf : Type 0
 FlatsOf = ℕ → List (List Field)
 
--- how many fields those of nodes have together
-abbrev pub pairs_of : FlatsOf → List ℕ → ℕ
-pairs_of flats nodes = sum_by (λ n. pairs_in (flats n)) nodes
+-- how many bytes those of nodes take at least
+abbrev pub weight_of : FlatsOf → List ℕ → ℕ
+weight_of flats nodes = sum_by (λ n. weight_in (flats n)) nodes
 
 -- what nodes have, of which the first so many are changed already, and the others not yet
 abbrev pub changed : {X : Type 0} → (ℕ → X) → (ℕ → X) → ℕ → List ℕ → List X

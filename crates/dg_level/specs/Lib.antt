@@ -5,8 +5,16 @@ pub mod Shown
 pub mod Planned
 pub mod OrderKeys
 pub mod Forms
+pub mod Faults
+pub mod Aggregates
+pub mod PlannedAggregates
 pub mod Blocks
 pub mod PlannedBlocks
+pub mod Given
+pub mod PlannedGiven
+pub mod Defining
+pub mod Meaning
+pub mod Laws
 pub mod Keeping
 pub mod Parts
 pub mod Rows

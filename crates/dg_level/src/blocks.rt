@@ -66,8 +66,8 @@ fn put_in_order<S: Snapshot, L: Ledger>(
     Ok(page(order(alloc, nodes, by.as_slice())?, args))
 }
 
-// The list of a block, by the plan.
-fn planned_nodes<S: Snapshot, L: Ledger>(
+/// The list of a block, by the plan. The error is want of memory.
+pub fn planned_nodes<S: Snapshot, L: Ledger>(
     alloc: Global,
     snap: &S,
     args: &[QArg],

@@ -27,8 +27,8 @@ use dg_values::{Mem, OutOfMemory, Steps, Str};
 use std::alloc::Global;
 use std::sync::ledger::Ledger;
 
-/// An equal edge. The error is want of memory.
-pub fn copy_edge(alloc: Global, edge: &QEdge) -> Mem<QEdge>
+// An equal edge. The error is want of memory.
+fn copy_edge(alloc: Global, edge: &QEdge) -> Mem<QEdge>
     ensures { IfOk result (λ e. e ≡ edge.now) }
 {
     let pred = edge.pred.copy(alloc)?;
@@ -45,8 +45,8 @@ fn add(columns: &mut Vec<Column>, column: Column) -> Mem<()>
     Ok(columns.push(column)?)
 }
 
-/// The values of a predicate, where an edge by it leads to values. The error is want of memory.
-pub fn values_content(
+// The values of a predicate, where an edge by it leads to values. The error is want of memory.
+fn values_content(
     alloc: Global,
     sort: Sort,
     definition: Option<&PredDef>,
@@ -67,8 +67,8 @@ pub fn values_content(
     }
 }
 
-/// What is shown under an edge without braces. The error is want of memory.
-pub fn bare_content<S: Snapshot>(alloc: Global, snap: &S, edge: &QEdge, kept: &Item) -> Mem<Content>
+// What is shown under an edge without braces. The error is want of memory.
+fn bare_content<S: Snapshot>(alloc: Global, snap: &S, edge: &QEdge, kept: &Item) -> Mem<Content>
     ensures shows { (vars : Items Known) (nodes : Items ℕ) → IfOk result (λ c. ShowsBy (S.graph snap.now) vars nodes c (bare_trees (S.declared snap.now) (S.graph snap.now) edge.now (out-Item kept.now))) }
     ensures held { IfOk result (λ c. (held_by c ≡ 0) × (room_of c ≡ 0)) }
 {
@@ -82,8 +82,8 @@ pub fn bare_content<S: Snapshot>(alloc: Global, snap: &S, edge: &QEdge, kept: &I
     }
 }
 
-/// The value of a variable, as it is kept.
-pub fn value_content(kept: &Item) -> Content
+// The value of a variable, as it is kept.
+fn value_content(kept: &Item) -> Content
     ensures shows { (graph : Items Triple) (vars : Items Known) (nodes : Items ℕ) → ShowsBy graph vars nodes result (λ n. value_kept vars n (out-Item kept.now)) }
     ensures held { (held_by result ≡ 0) × (room_of result ≡ 0) }
 {

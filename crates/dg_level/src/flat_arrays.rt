@@ -8,7 +8,7 @@ ghost use Rattle.dg_tree.specs.declared.tree.Tree.TheVariants as trees;
 ghost use Rattle.dg_tree.specs.Texts.{tree_text};
 ghost use Rattle.dg_level.specs.Shown.{cascades, objects_at};
 ghost use Rattle.dg_level.specs.Blocks.{flat_shown};
-ghost use Rattle.dg_level.specs.FlatLevels.{pairs_of};
+ghost use Rattle.dg_level.specs.FlatLevels.{weight_of};
 
 use crate::Rows;
 use crate::blocks::MOST;
@@ -28,7 +28,7 @@ use std::sync::ledger::Ledger;
 
 // The flat objects of each node of a block's level.
 //
-// `TooLarge` only where they have more than 4,194,304 fields together. The other error is want of memory.
+// `TooLarge` only where they weigh more than 16,777,216 bytes together. The other error is want of memory.
 fn block_flats<S: Snapshot, L: Ledger>(
     alloc: Global,
     snap: &S,
@@ -41,7 +41,7 @@ fn block_flats<S: Snapshot, L: Ledger>(
     ensures flats { (ds : List Definition) → IsLawful (S.declared snap.now) (S.graph snap.now) → AreOfKind ds vars.now.variables → IsBlockOf (S.declared snap.now) ds block.now kept.now
         → IfOk result (λ v. v.items ≡ map (objects_at (S.declared snap.now) (S.graph snap.now) ds vars.now.variables (cascades false block.now.dirs) block.now.fields) level.now) }
     ensures too_large { (ds : List Definition) → IsLawful (S.declared snap.now) (S.graph snap.now) → AreOfKind ds vars.now.variables → IsBlockOf (S.declared snap.now) ds block.now kept.now
-        → IsErrOf result TreeFault.TooLarge → 4194304 < pairs_of (objects_at (S.declared snap.now) (S.graph snap.now) ds vars.now.variables (cascades false block.now.dirs) block.now.fields) level.now }
+        → IsErrOf result TreeFault.TooLarge → 16777216 < weight_of (objects_at (S.declared snap.now) (S.graph snap.now) ds vars.now.variables (cascades false block.now.dirs) block.now.fields) level.now }
 {
     meanings();
     level_flats(

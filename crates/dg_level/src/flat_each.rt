@@ -4,12 +4,14 @@ ghost use Rattle.std.specs.Ordering.{nat_cmp};
 ghost use Rattle.dg_values.specs.Ascending.{ascending};
 ghost use Rattle.dg_tree.specs.declared.tree.Field.{Field as Pair};
 ghost use Rattle.dg_shape.specs.Normalize.{joined, times, has_pair};
-ghost use Rattle.dg_level.specs.Flats.{pairs_in};
+ghost use Rattle.dg_level.specs.Flats.{weight_in, AreAllApart};
 ghost use Rattle.dg_level.specs.Rows.{AreOfLevel};
-ghost use Rattle.dg_level.specs.FlatLevels.{FlatsOf, pairs_of};
+ghost use Rattle.dg_level.specs.FlatLevels.{FlatsOf, weight_of};
 ghost use Rattle.dg_level.specs.Shown.{under};
 
-use crate::flat_rows::{Flats, MOST_PAIRS};
+use crate::blocks::MOST;
+use crate::flat_room::check_room;
+use crate::flat_rows::Flats;
 use crate::lists::list_at;
 use dg_tree::{Field, Tree, TreeFault};
 use dg_uids::Uids;
@@ -45,13 +47,13 @@ pub fn filled_each(alloc: Global, made: &mut [Flats])
     }
 }
 
-// The objects of a node as they are, where there is room for their fields.
+// The objects of a node as they are, where there is room for them.
 fn keep(flats: &mut Flats, room: usize) -> Result<(), TreeFault>
     ensures ok { OnOk result (flats.new ≡ flats.old) }
-    ensures within { OnOk result (pairs_in flats.new ≤ room) }
-    ensures too_large { IsErrOf result TreeFault.TooLarge → room < pairs_in flats.old }
+    ensures within { OnOk result (weight_in flats.new ≤ room) }
+    ensures too_large { IsErrOf result TreeFault.TooLarge → room < weight_in flats.old }
 {
-    if flats.pairs() > room {
+    if flats.weight() > room {
         return Err(TreeFault::TooLarge);
     }
     Ok(())
@@ -60,8 +62,8 @@ fn keep(flats: &mut Flats, room: usize) -> Result<(), TreeFault>
 // The objects of a node, each with a field more.
 fn add(alloc: Global, flats: &mut Flats, pair: Field, room: usize) -> Result<(), TreeFault>
     ensures ok { OnOk result (flats.new ≡ map (λ object. joined object (pair ∷ [])) flats.old) }
-    ensures within { OnOk result (pairs_in flats.new ≤ room) }
-    ensures too_large { IsErrOf result TreeFault.TooLarge → room < pairs_in (map (λ object. joined object (pair ∷ [])) flats.old) }
+    ensures within { OnOk result (weight_in flats.new ≤ room) }
+    ensures too_large { IsErrOf result TreeFault.TooLarge → room < weight_in (map (λ object. joined object (pair ∷ [])) flats.old) }
 {
     let objects = mem::replace(flats, Flats::none(alloc));
     *flats = objects.with_shown(alloc, pair, room)?;
@@ -80,7 +82,7 @@ fn field(alloc: Global, key: &str, tree: Tree) -> Mem<Field>
 ///
 /// # Errors
 ///
-/// `TooLarge` only where they have more fields together than there is room for, and else `OutOfMemory` for want of memory.
+/// `TooLarge` only where they weigh more than there is room for, and else `OutOfMemory` for want of memory.
 pub fn show(
     alloc: Global,
     flats: &mut Flats,
@@ -89,8 +91,8 @@ pub fn show(
     room: usize,
 ) -> Result<(), TreeFault>
     ensures ok { OnOk result (flats.new ≡ map (λ object. joined object (map (under key.now) (option_to_list tree))) flats.old) }
-    ensures within { OnOk result (pairs_in flats.new ≤ room) }
-    ensures too_large { IsErrOf result TreeFault.TooLarge → room < pairs_in (map (λ object. joined object (map (under key.now) (option_to_list tree))) flats.old) }
+    ensures within { OnOk result (weight_in flats.new ≤ room) }
+    ensures too_large { IsErrOf result TreeFault.TooLarge → room < weight_in (map (λ object. joined object (map (under key.now) (option_to_list tree))) flats.old) }
 {
     match tree {
         None => keep(flats, room),
@@ -111,8 +113,8 @@ fn multiply(
     room: usize,
 ) -> Result<(), TreeFault>
     ensures ok { (f : FlatsOf) → below.now ≡ map f level.now → AreOfLevel level.now list.now → OnOk result (flats.new ≡ times flats.old (flat_map f list.now)) }
-    ensures within { OnOk result (pairs_in flats.new ≤ room) }
-    ensures too_large { (f : FlatsOf) → below.now ≡ map f level.now → AreOfLevel level.now list.now → IsErrOf result TreeFault.TooLarge → room < pairs_in (times flats.old (flat_map f list.now)) }
+    ensures within { OnOk result (weight_in flats.new ≤ room) }
+    ensures too_large { (f : FlatsOf) → below.now ≡ map f level.now → AreOfLevel level.now list.now → IsErrOf result TreeFault.TooLarge → room < weight_in (times flats.old (flat_map f list.now)) }
 {
     let objects = mem::replace(flats, Flats::none(alloc));
     *flats = objects.times(alloc, list, level, below, room)?;
@@ -120,11 +122,11 @@ fn multiply(
 }
 
 /// The objects of each node of a level, each followed by each of those of the nodes of its list. These are found in the
-/// level below by the nodes' places.
+/// level below by the nodes' places. Before any is made, it is told whether there is room for them.
 ///
 /// # Errors
 ///
-/// `TooLarge` only where they have more fields together than the limit, and else `OutOfMemory` for want of memory.
+/// `TooLarge` only where they weigh more together than the limit, and else `OutOfMemory` for want of memory.
 pub fn times_each(
     alloc: Global,
     made: &mut [Flats],
@@ -134,22 +136,16 @@ pub fn times_each(
 ) -> Result<(), TreeFault>
     ensures ok { (g f : FlatsOf) (list : ℕ → Items ℕ) (nodes : Items ℕ) → made.old ≡ map g nodes → lists.now ≡ map list nodes → level.now ≡ ascending nat_cmp (flat_map list nodes) → below.now ≡ map f level.now
         → OnOk result (made.new ≡ map (λ n. times (g n) (flat_map f (list n))) nodes) }
-    ensures within { OnOk result (sum_by pairs_in made.new ≤ 4194304) }
-    ensures too_large { (g f : FlatsOf) (list : ℕ → Items ℕ) (nodes : Items ℕ) → made.old ≡ map g nodes → lists.now ≡ map list nodes → level.now ≡ ascending nat_cmp (flat_map list nodes) → below.now ≡ map f level.now
-        → IsErrOf result TreeFault.TooLarge → 4194304 < pairs_of (λ n. times (g n) (flat_map f (list n))) nodes }
+    ensures within { OnOk result (sum_by weight_in made.new ≤ 16777216) }
+    ensures too_large { (g f : FlatsOf) (list : ℕ → Items ℕ) (nodes : Items ℕ) → made.old ≡ map g nodes → lists.now ≡ map list nodes → level.now ≡ ascending nat_cmp (flat_map list nodes) → below.now ≡ map f level.now → ((n : ℕ) → AreAllApart (f n))
+        → IsErrOf result TreeFault.TooLarge → 16777216 < weight_of (λ n. times (g n) (flat_map f (list n))) nodes }
 {
+    check_room(made, lists, level, below)?;
     let mut used = 0;
     for place in 0..made.len() {
         let list = list_at(lists, place);
-        multiply(
-            alloc,
-            &mut made[place],
-            list,
-            level,
-            below,
-            MOST_PAIRS - used,
-        )?;
-        used += made[place].pairs();
+        multiply(alloc, &mut made[place], list, level, below, MOST - used)?;
+        used += made[place].weight();
     }
     Ok(())
 }

@@ -4,8 +4,8 @@ ghost use Rattle.dg_parse.specs.declared.query.QItem.TheViews.{out-QItem};
 ghost use Rattle.dg_check.specs.declared.parts.Item.TheViews.{out-Item};
 ghost use Rattle.dg_shape.specs.Normalize.{times};
 ghost use Rattle.dg_level.specs.Planned.{planned_flats};
-ghost use Rattle.dg_level.specs.Flats.{pairs_in, has_object};
-ghost use Rattle.dg_level.specs.FlatLevels.{FlatsOf, pairs_of, sort_in, list_flats, behind_edge, behind_item, behind_field, behind_fields};
+ghost use Rattle.dg_level.specs.Flats.{weight_in, has_object};
+ghost use Rattle.dg_level.specs.FlatLevels.{FlatsOf, weight_of, sort_in, list_flats, behind_edge, behind_item, behind_field, behind_fields};
 
 use crate::directives::cascades;
 use crate::flat_each::{filled_each, one_each, times_each};
@@ -41,8 +41,7 @@ fn sort_in<S: Snapshot>(snap: &S, item: &QItem) -> Sort
 ///
 /// # Errors
 ///
-/// `TooLarge` only where the objects of all nodes together have more fields than the limit, and else `OutOfMemory` for want of
-/// memory.
+/// `TooLarge` only where the objects of all nodes weigh more together than the limit, and else `OutOfMemory` for want of memory.
 #[cycle(flat)]
 pub fn level_flats<S: Snapshot, L: Ledger>(
     alloc: Global,
@@ -55,8 +54,8 @@ pub fn level_flats<S: Snapshot, L: Ledger>(
     reads: &mut Steps<L>,
 ) -> Result<Vec<Flats>, TreeFault>
     ensures flats { IfOk result (λ v. v.items ≡ map (planned_flats (S.declared snap.now) (S.graph snap.now) vars.now.variables cascade fields.now kept.now) nodes.now) }
-    ensures within { IfOk result (λ v. sum_by pairs_in v.items ≤ 4194304) }
-    ensures too_large { IsErrOf result TreeFault.TooLarge → 4194304 < pairs_of (planned_flats (S.declared snap.now) (S.graph snap.now) vars.now.variables cascade fields.now kept.now) nodes.now }
+    ensures within { IfOk result (λ v. sum_by weight_in v.items ≤ 16777216) }
+    ensures too_large { IsErrOf result TreeFault.TooLarge → 16777216 < weight_of (planned_flats (S.declared snap.now) (S.graph snap.now) vars.now.variables cascade fields.now kept.now) nodes.now }
 {
     let mut made = behind_fields(alloc, snap, cascade, fields, kept, vars, nodes, reads)?;
     filled_each(alloc, made.as_mut_slice());
@@ -76,8 +75,8 @@ fn behind_fields<S: Snapshot, L: Ledger>(
     reads: &mut Steps<L>,
 ) -> Result<Vec<Flats>, TreeFault>
     ensures flats { IfOk result (λ v. v.items ≡ map (behind_fields (S.declared snap.now) (S.graph snap.now) vars.now.variables cascade fields.now kept.now) nodes.now) }
-    ensures within { IfOk result (λ v. sum_by pairs_in v.items ≤ 4194304) }
-    ensures too_large { IsErrOf result TreeFault.TooLarge → 4194304 < pairs_of (behind_fields (S.declared snap.now) (S.graph snap.now) vars.now.variables cascade fields.now kept.now) nodes.now }
+    ensures within { IfOk result (λ v. sum_by weight_in v.items ≤ 16777216) }
+    ensures too_large { IsErrOf result TreeFault.TooLarge → 16777216 < weight_of (behind_fields (S.declared snap.now) (S.graph snap.now) vars.now.variables cascade fields.now kept.now) nodes.now }
 {
     let mut made = one_each(alloc, nodes)?;
     for (place, field) in fields.iter().enumerate() {
@@ -105,9 +104,9 @@ fn behind_field<S: Snapshot, L: Ledger>(
 ) -> Result<Vec<Flats>, TreeFault>
     ensures flats { (g : FlatsOf) → made.items ≡ map g nodes.now
         → IfOk result (λ v. v.items ≡ map (λ n. behind_field (S.declared snap.now) (S.graph snap.now) vars.now.variables cascade field.now kept.now n (g n)) nodes.now) }
-    ensures within { sum_by pairs_in made.items ≤ 4194304 → IfOk result (λ v. sum_by pairs_in v.items ≤ 4194304) }
+    ensures within { sum_by weight_in made.items ≤ 16777216 → IfOk result (λ v. sum_by weight_in v.items ≤ 16777216) }
     ensures too_large { (g : FlatsOf) → made.items ≡ map g nodes.now → ((n : ℕ) → has_object (g n) ≡ true)
-        → IsErrOf result TreeFault.TooLarge → 4194304 < pairs_of (λ n. behind_field (S.declared snap.now) (S.graph snap.now) vars.now.variables cascade field.now kept.now n (g n)) nodes.now }
+        → IsErrOf result TreeFault.TooLarge → 16777216 < weight_of (λ n. behind_field (S.declared snap.now) (S.graph snap.now) vars.now.variables cascade field.now kept.now n (g n)) nodes.now }
 {
     let sort = sort_in(snap, &field.item);
     if !leads_to_nodes(sort) {
@@ -153,9 +152,9 @@ fn behind_item<S: Snapshot, L: Ledger>(
 ) -> Result<Vec<Flats>, TreeFault>
     ensures flats { (g : FlatsOf) → made.items ≡ map g nodes.now
         → IfOk result (λ v. v.items ≡ map (λ n. behind_item (S.declared snap.now) (S.graph snap.now) vars.now.variables single cascade (out-QItem item.now) (out-Item kept.now) n (g n)) nodes.now) }
-    ensures within { sum_by pairs_in made.items ≤ 4194304 → IfOk result (λ v. sum_by pairs_in v.items ≤ 4194304) }
+    ensures within { sum_by weight_in made.items ≤ 16777216 → IfOk result (λ v. sum_by weight_in v.items ≤ 16777216) }
     ensures too_large { (g : FlatsOf) → made.items ≡ map g nodes.now → ((n : ℕ) → has_object (g n) ≡ true)
-        → IsErrOf result TreeFault.TooLarge → 4194304 < pairs_of (λ n. behind_item (S.declared snap.now) (S.graph snap.now) vars.now.variables single cascade (out-QItem item.now) (out-Item kept.now) n (g n)) nodes.now }
+        → IsErrOf result TreeFault.TooLarge → 16777216 < weight_of (λ n. behind_item (S.declared snap.now) (S.graph snap.now) vars.now.variables single cascade (out-QItem item.now) (out-Item kept.now) n (g n)) nodes.now }
 {
     match item {
         QItem::Uid | QItem::CountUid | QItem::Count(_) | QItem::Val(_) | QItem::Agg { .. } => Ok(
@@ -204,9 +203,9 @@ fn behind_edge<S: Snapshot, L: Ledger>(
 ) -> Result<Vec<Flats>, TreeFault>
     ensures flats { (g : FlatsOf) → made.items ≡ map g nodes.now
         → IfOk result (λ v. v.items ≡ map (λ n. behind_edge (S.declared snap.now) (S.graph snap.now) vars.now.variables edge.now args.now braces.now single cascade (out-Item kept.now) n (g n)) nodes.now) }
-    ensures within { sum_by pairs_in made.items ≤ 4194304 → IfOk result (λ v. sum_by pairs_in v.items ≤ 4194304) }
+    ensures within { sum_by weight_in made.items ≤ 16777216 → IfOk result (λ v. sum_by weight_in v.items ≤ 16777216) }
     ensures too_large { (g : FlatsOf) → made.items ≡ map g nodes.now → ((n : ℕ) → has_object (g n) ≡ true)
-        → IsErrOf result TreeFault.TooLarge → 4194304 < pairs_of (λ n. behind_edge (S.declared snap.now) (S.graph snap.now) vars.now.variables edge.now args.now braces.now single cascade (out-Item kept.now) n (g n)) nodes.now }
+        → IsErrOf result TreeFault.TooLarge → 16777216 < weight_of (λ n. behind_edge (S.declared snap.now) (S.graph snap.now) vars.now.variables edge.now args.now braces.now single cascade (out-Item kept.now) n (g n)) nodes.now }
 {
     let Item::Edge {
         orders,
@@ -254,9 +253,9 @@ fn behind_nodes<S: Snapshot, L: Ledger>(
 ) -> Result<Vec<Flats>, TreeFault>
     ensures flats { (g : FlatsOf) → made.items ≡ map g nodes.now
         → IfOk result (λ v. v.items ≡ map (λ n. times (g n) (list_flats (S.declared snap.now) (S.graph snap.now) vars.now.variables edge.now args.now orders.now filters.now braces.now inner.now single cascade n)) nodes.now) }
-    ensures within { IfOk result (λ v. sum_by pairs_in v.items ≤ 4194304) }
+    ensures within { IfOk result (λ v. sum_by weight_in v.items ≤ 16777216) }
     ensures too_large { (g : FlatsOf) → made.items ≡ map g nodes.now → ((n : ℕ) → has_object (g n) ≡ true)
-        → IsErrOf result TreeFault.TooLarge → 4194304 < pairs_of (λ n. times (g n) (list_flats (S.declared snap.now) (S.graph snap.now) vars.now.variables edge.now args.now orders.now filters.now braces.now inner.now single cascade n)) nodes.now }
+        → IsErrOf result TreeFault.TooLarge → 16777216 < weight_of (λ n. times (g n) (list_flats (S.declared snap.now) (S.graph snap.now) vars.now.variables edge.now args.now orders.now filters.now braces.now inner.now single cascade n)) nodes.now }
 {
     let lists = lists_of(
         alloc, snap, single, edge, args, orders, filters, vars, nodes, reads,

@@ -8,12 +8,13 @@ ghost use Rattle.dg_level.specs.Answers.{shown};
 ghost use Rattle.dg_level.specs.Shown.{sort_of};
 ghost use Rattle.dg_level.specs.Planned.{value_kept};
 ghost use Rattle.dg_level.specs.Levels.{own_shown, bare_trees};
-ghost use Rattle.dg_level.specs.Flats.{pairs_in};
-ghost use Rattle.dg_level.specs.FlatLevels.{FlatsOf, pairs_of, own_trees, with_trees, with_own};
+ghost use Rattle.dg_level.specs.Flats.{weight_in};
+ghost use Rattle.dg_level.specs.FlatLevels.{FlatsOf, weight_of, own_trees, with_trees, with_own};
 
 use crate::answers::shown;
+use crate::blocks::MOST;
 use crate::flat_each::show;
-use crate::flat_rows::{Flats, MOST_PAIRS};
+use crate::flat_rows::Flats;
 use crate::sorts::{Sort, sort_of};
 use crate::writing::{tree_of, uid_text};
 use dg_check::{Item, Vars};
@@ -103,7 +104,7 @@ fn node_at(nodes: &[u64], place: usize) -> u64
 
 // The objects of each node, each with what an item shows by itself there under a key.
 //
-// `TooLarge` only where they have more fields together than the limit. The other error is want of memory.
+// `TooLarge` only where they weigh more together than the limit. The other error is want of memory.
 fn show_each<S: Snapshot, L: Ledger>(
     alloc: Global,
     snap: &S,
@@ -117,16 +118,16 @@ fn show_each<S: Snapshot, L: Ledger>(
 ) -> Result<(), TreeFault>
     ensures ok { (g : FlatsOf) → made.old ≡ map g nodes.now
         → OnOk result (made.new ≡ map (λ n. with_trees key.now (own_trees (S.declared snap.now) (S.graph snap.now) vars.now.variables (out-QItem item.now) (out-Item kept.now) n) (g n)) nodes.now) }
-    ensures within { OnOk result (sum_by pairs_in made.new ≤ 4194304) }
+    ensures within { OnOk result (sum_by weight_in made.new ≤ 16777216) }
     ensures too_large { (g : FlatsOf) → made.old ≡ map g nodes.now
-        → IsErrOf result TreeFault.TooLarge → 4194304 < pairs_of (λ n. with_trees key.now (own_trees (S.declared snap.now) (S.graph snap.now) vars.now.variables (out-QItem item.now) (out-Item kept.now) n) (g n)) nodes.now }
+        → IsErrOf result TreeFault.TooLarge → 16777216 < weight_of (λ n. with_trees key.now (own_trees (S.declared snap.now) (S.graph snap.now) vars.now.variables (out-QItem item.now) (out-Item kept.now) n) (g n)) nodes.now }
 {
     let mut used = 0;
     for place in 0..made.len() {
         let node = node_at(nodes, place);
         let tree = own_tree(alloc, snap, item, kept, vars, node, reads)?;
-        show(alloc, &mut made[place], key, tree, MOST_PAIRS - used)?;
-        used += made[place].pairs();
+        show(alloc, &mut made[place], key, tree, MOST - used)?;
+        used += made[place].weight();
     }
     Ok(())
 }
@@ -135,7 +136,7 @@ fn show_each<S: Snapshot, L: Ledger>(
 ///
 /// # Errors
 ///
-/// `TooLarge` only where they have more fields together than the limit, and else `OutOfMemory` for want of memory.
+/// `TooLarge` only where they weigh more together than the limit, and else `OutOfMemory` for want of memory.
 pub fn behind_own<S: Snapshot, L: Ledger>(
     alloc: Global,
     snap: &S,
@@ -149,9 +150,9 @@ pub fn behind_own<S: Snapshot, L: Ledger>(
 ) -> Result<Vec<Flats>, TreeFault>
     ensures flats { (g : FlatsOf) → made.items ≡ map g nodes.now
         → IfOk result (λ v. v.items ≡ map (λ n. with_own alias.now (own_trees (S.declared snap.now) (S.graph snap.now) vars.now.variables (out-QItem item.now) (out-Item kept.now) n) (g n)) nodes.now) }
-    ensures within { sum_by pairs_in made.items ≤ 4194304 → IfOk result (λ v. sum_by pairs_in v.items ≤ 4194304) }
+    ensures within { sum_by weight_in made.items ≤ 16777216 → IfOk result (λ v. sum_by weight_in v.items ≤ 16777216) }
     ensures too_large { (g : FlatsOf) → made.items ≡ map g nodes.now
-        → IsErrOf result TreeFault.TooLarge → 4194304 < pairs_of (λ n. with_own alias.now (own_trees (S.declared snap.now) (S.graph snap.now) vars.now.variables (out-QItem item.now) (out-Item kept.now) n) (g n)) nodes.now }
+        → IsErrOf result TreeFault.TooLarge → 16777216 < weight_of (λ n. with_own alias.now (own_trees (S.declared snap.now) (S.graph snap.now) vars.now.variables (out-QItem item.now) (out-Item kept.now) n) (g n)) nodes.now }
 {
     match alias {
         None => Ok(made),

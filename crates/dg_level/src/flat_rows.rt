@@ -1,11 +1,11 @@
 // The flat objects of a node, made of those of the nodes of the level below.
-ghost use Rattle.std.specs.Prelude.{◌≡◌, ℕ, ◌+◌, ◌<◌, ◌≤◌, ◌++◌, ◌∷◌, [], true, List as Items, length, map, flat_map, filter, IfOk, IfSome, OnOk, IsErrOf};
+ghost use Rattle.std.specs.Prelude.{◌≡◌, ℕ, ◌+◌, ◌<◌, ◌≤◌, ◌++◌, ◌∷◌, [], true, List as Items, length, map, flat_map, filter, Some, option_copied, IfOk, IfSome, OnOk, IsErrOf};
 ghost use Rattle.std.specs.Arc.{arc_value};
 ghost use Rattle.std.specs.Ordering.{nat_cmp};
 ghost use Rattle.dg_values.specs.Ascending.{has};
 ghost use Rattle.dg_tree.specs.declared.tree.Field.{Field as Pair};
 ghost use Rattle.dg_shape.specs.Normalize.{with_pair, joined, times, has_pair};
-ghost use Rattle.dg_level.specs.Flats.{pairs_in, has_object};
+ghost use Rattle.dg_level.specs.Flats.{weight, weight_in, has_object};
 ghost use Rattle.dg_level.specs.Rows.{AreOfLevel};
 
 use crate::flats::Flat;
@@ -17,15 +17,12 @@ use std::alloc::Global;
 use std::marker::Model;
 use std::sync::Arc;
 
-/// How many fields the objects of an answer may have together: each has four bytes and more there.
-pub const MOST_PAIRS: usize = 4_194_304;
-
-/// The flat objects of a node, in order, which contracts see as lists of fields. It knows how many fields they have
-/// together.
+/// The flat objects of a node, in order, which contracts see as lists of fields. It knows what they weigh: how many bytes they
+/// take in an array at least.
 #[derive(Drop)]
 pub struct Flats {
     objects: Vec<Flat>,
-    pairs: usize,
+    weight: usize,
 }
 
 impl Model for Flats {
@@ -33,7 +30,7 @@ impl Model for Flats {
     ghost use Rattle.std.specs.Coded.{codes};
     ghost use Rattle.dg_tree.specs.contracts.tree.Field as field;
     ghost use Rattle.dg_tree.specs.declared.tree.Field.{Field};
-    ghost use Rattle.dg_level.specs.Flats.{pairs_in};
+    ghost use Rattle.dg_level.specs.Flats.{weight_in};
 
     ghost Value = { List (List Field) };
 
@@ -41,7 +38,7 @@ impl Model for Flats {
 
     ghost view = { λ flats. flats.objects.items };
 
-    ghost invariant = { λ flats. flats.pairs ≡ pairs_in flats.objects.items };
+    ghost invariant = { λ flats. flats.weight ≡ weight_in flats.objects.items };
 }
 
 impl Flats {
@@ -51,7 +48,7 @@ impl Flats {
     {
         Flats {
             objects: Vec::new(alloc),
-            pairs: 0,
+            weight: 0,
         }
     }
 
@@ -61,7 +58,7 @@ impl Flats {
     {
         let mut objects = Vec::new(alloc);
         objects.push(Flat::new(alloc))?;
-        Ok(Flats { objects, pairs: 0 })
+        Ok(Flats { objects, weight: 0 })
     }
 
     /// The objects.
@@ -71,38 +68,44 @@ impl Flats {
         self.objects.as_slice()
     }
 
-    /// How many fields they have together.
-    pub fn pairs(&self) -> usize
-        ensures { result ≡ pairs_in self.now }
+    /// How many objects they are.
+    pub fn len(&self) -> usize
+        ensures { result ≡ length self.now }
     {
-        self.pairs
+        self.objects.len()
+    }
+
+    /// What they weigh.
+    pub fn weight(&self) -> usize
+        ensures { result ≡ weight_in self.now }
+    {
+        self.weight
     }
 
     /// The objects that have a field.
     pub fn filled(self) -> Flats
         ensures { result ≡ filter has_pair self }
     {
-        let Flats { objects, pairs } = self;
+        let Flats { objects, weight } = self;
         let objects = with_pairs(objects);
-        Flats { objects, pairs }
+        Flats { objects, weight }
     }
 
     /// Each object with a field more, unless one of its key is there. They share it.
     ///
     /// # Errors
     ///
-    /// `TooLarge` comes exactly where they would have more fields together than there is room for, and else
-    /// `OutOfMemory` for want of memory.
+    /// `TooLarge` comes exactly where they would weigh more than there is room for, and else `OutOfMemory` for want of memory.
     pub fn with_shown(self, alloc: Global, pair: Field, room: usize) -> Result<Flats, TreeFault>
         ensures ok { IfOk result (λ flats. flats ≡ map (λ object. joined object (pair ∷ [])) self) }
-        ensures within { IfOk result (λ flats. pairs_in flats ≤ room) }
-        ensures too_large { IsErrOf result TreeFault.TooLarge → room < pairs_in (map (λ object. joined object (pair ∷ [])) self) }
+        ensures within { IfOk result (λ flats. weight_in flats ≤ room) }
+        ensures too_large { IsErrOf result TreeFault.TooLarge → room < weight_in (map (λ object. joined object (pair ∷ [])) self) }
     {
         let Flats { mut objects, .. } = self;
         let pair = share(alloc, pair)?;
         let left = add_to_each(objects.as_mut_slice(), &pair, room)?;
-        let pairs = room - left;
-        Ok(Flats { objects, pairs })
+        let weight = room - left;
+        Ok(Flats { objects, weight })
     }
 
     /// Each object followed by each of those of a list's nodes, in its order, or alone where these have none. The nodes'
@@ -110,8 +113,8 @@ impl Flats {
     ///
     /// # Errors
     ///
-    /// `TooLarge` comes exactly where they would have more fields together than there is room for, as soon as those made
-    /// have, and else `OutOfMemory` for want of memory.
+    /// `TooLarge` comes exactly where they would weigh more than there is room for, as soon as those made do, and else
+    /// `OutOfMemory` for want of memory.
     pub fn times(
         self,
         alloc: Global,
@@ -122,9 +125,9 @@ impl Flats {
     ) -> Result<Flats, TreeFault>
         ensures ok { (flats : ℕ → Items (Items Pair)) → below.now ≡ map flats level.now → AreOfLevel level.now list.now
             → IfOk result (λ made. made ≡ times self (flat_map flats list.now)) }
-        ensures within { IfOk result (λ made. pairs_in made ≤ room) }
+        ensures within { IfOk result (λ made. weight_in made ≤ room) }
         ensures too_large { (flats : ℕ → Items (Items Pair)) → below.now ≡ map flats level.now → AreOfLevel level.now list.now
-            → IsErrOf result TreeFault.TooLarge → room < pairs_in (times self (flat_map flats list.now)) }
+            → IsErrOf result TreeFault.TooLarge → room < weight_in (times self (flat_map flats list.now)) }
     {
         let parts = parts_of(alloc, list, level, below)?;
         if let Some(other) = only_one(parts.as_slice()) {
@@ -133,7 +136,7 @@ impl Flats {
         if has_object(parts.as_slice()) {
             return crossed(alloc, self.as_slice(), parts.as_slice(), room);
         }
-        if self.pairs() > room {
+        if self.weight() > room {
             return Err(TreeFault::TooLarge);
         }
         Ok(self)
@@ -155,34 +158,33 @@ fn share(alloc: Global, pair: Field) -> Mem<Arc<Field>>
     Ok(Arc::new(alloc, pair)?)
 }
 
-// Adds a field to an object, unless one of its key is there, where there is room for all its fields. It answers for how many
-// more there is room.
+// Adds a field to an object, unless one of its key is there, where there is room for it then. It answers how much room is left.
 fn add_within(object: &mut Flat, pair: &Arc<Field>, room: usize) -> Result<usize, TreeFault>
     ensures ok { OnOk result (object.new ≡ with_pair object.old (arc_value pair.now)) }
-    ensures left { IfOk result (λ left. left + length (with_pair object.old (arc_value pair.now)) ≡ room) }
-    ensures too_large { IsErrOf result TreeFault.TooLarge → room < length (with_pair object.old (arc_value pair.now)) }
+    ensures left { IfOk result (λ left. left + weight (with_pair object.old (arc_value pair.now)) ≡ room) }
+    ensures too_large { IsErrOf result TreeFault.TooLarge → room < weight (with_pair object.old (arc_value pair.now)) }
 {
     object.add(pair)?;
     room_behind(object, room)
 }
 
-// For how many fields there is room behind those of an object.
+// How much room is left behind an object.
 fn room_behind(object: &Flat, room: usize) -> Result<usize, TreeFault>
-    ensures left { IfOk result (λ left. left + length object.now ≡ room) }
-    ensures too_large { IsErrOf result TreeFault.TooLarge → room < length object.now }
+    ensures left { IfOk result (λ left. left + weight object.now ≡ room) }
+    ensures too_large { IsErrOf result TreeFault.TooLarge → room < weight object.now }
 {
-    let many = object.len();
-    if many > room {
+    let weight = object.weight();
+    if weight > room {
         return Err(TreeFault::TooLarge);
     }
-    Ok(room - many)
+    Ok(room - weight)
 }
 
-// Adds a field to each object, unless one of its key is there. It answers for how many more there is room.
+// Adds a field to each object, unless one of its key is there. It answers how much room is left.
 fn add_to_each(objects: &mut [Flat], pair: &Arc<Field>, room: usize) -> Result<usize, TreeFault>
     ensures ok { OnOk result (objects.new ≡ map (λ object. with_pair object (arc_value pair.now)) objects.old) }
-    ensures left { IfOk result (λ left. left + pairs_in (map (λ object. with_pair object (arc_value pair.now)) objects.old) ≡ room) }
-    ensures too_large { IsErrOf result TreeFault.TooLarge → room < pairs_in (map (λ object. with_pair object (arc_value pair.now)) objects.old) }
+    ensures left { IfOk result (λ left. left + weight_in (map (λ object. with_pair object (arc_value pair.now)) objects.old) ≡ room) }
+    ensures too_large { IsErrOf result TreeFault.TooLarge → room < weight_in (map (λ object. with_pair object (arc_value pair.now)) objects.old) }
 {
     let mut left = room;
     for i in 0..objects.len() {
@@ -191,13 +193,23 @@ fn add_to_each(objects: &mut [Flat], pair: &Arc<Field>, room: usize) -> Result<u
     Ok(left)
 }
 
+/// What a node of this level has.
+pub fn flats_of<'a>(level: &Uids, below: &'a [Flats], node: u64) -> Option<&'a Flats>
+    ensures { (f : ℕ → Items (Items Pair)) → below.now ≡ map f level.now → has nat_cmp level.now node ≡ true → option_copied result ≡ Some (f node) }
+{
+    match place_of(level.as_slice(), &node) {
+        Ok(place) if place < below.len() => Some(&below[place]),
+        _ => None,
+    }
+}
+
 /// The objects of a node of this level.
 pub fn objects_of<'a>(level: &Uids, below: &'a [Flats], node: u64) -> &'a [Flat]
     ensures { (f : ℕ → Items (Items Pair)) → below.now ≡ map f level.now → has nat_cmp level.now node ≡ true → result.now ≡ f node }
 {
-    match place_of(level.as_slice(), &node) {
-        Ok(place) if place < below.len() => below[place].as_slice(),
-        _ => &[],
+    match flats_of(level, below, node) {
+        Some(flats) => flats.as_slice(),
+        None => &[],
     }
 }
 
@@ -255,22 +267,22 @@ fn only(objects: &[Flat]) -> Option<&Flat>
     }
 }
 
-// Adds the fields of another object whose keys an object lacks, where there is room for all that it has then. It answers for
-// how many more there is room.
+// Adds the fields of another object whose keys an object lacks, where there is room for it then. It answers how much room is
+// left.
 fn join_within(object: &mut Flat, more: &Flat, room: usize) -> Result<usize, TreeFault>
     ensures ok { OnOk result (object.new ≡ joined object.old more.now) }
-    ensures left { IfOk result (λ left. left + length (joined object.old more.now) ≡ room) }
-    ensures too_large { IsErrOf result TreeFault.TooLarge → room < length (joined object.old more.now) }
+    ensures left { IfOk result (λ left. left + weight (joined object.old more.now) ≡ room) }
+    ensures too_large { IsErrOf result TreeFault.TooLarge → room < weight (joined object.old more.now) }
 {
     object.join(more)?;
     room_behind(object, room)
 }
 
-// Adds the fields of another object to each, as far as it lacks their keys. It answers for how many more there is room.
+// Adds the fields of another object to each, as far as it lacks their keys. It answers how much room is left.
 fn join_each(objects: &mut [Flat], more: &Flat, room: usize) -> Result<usize, TreeFault>
     ensures ok { OnOk result (objects.new ≡ map (λ object. joined object more.now) objects.old) }
-    ensures left { IfOk result (λ left. left + pairs_in (map (λ object. joined object more.now) objects.old) ≡ room) }
-    ensures too_large { IsErrOf result TreeFault.TooLarge → room < pairs_in (map (λ object. joined object more.now) objects.old) }
+    ensures left { IfOk result (λ left. left + weight_in (map (λ object. joined object more.now) objects.old) ≡ room) }
+    ensures too_large { IsErrOf result TreeFault.TooLarge → room < weight_in (map (λ object. joined object more.now) objects.old) }
 {
     let mut left = room;
     for i in 0..objects.len() {
@@ -282,13 +294,13 @@ fn join_each(objects: &mut [Flat], more: &Flat, room: usize) -> Result<usize, Tr
 // Each object followed by one other. None is copied.
 fn followed(flats: Flats, other: &Flat, room: usize) -> Result<Flats, TreeFault>
     ensures ok { IfOk result (λ made. made ≡ times flats (other.now ∷ [])) }
-    ensures within { IfOk result (λ made. pairs_in made ≤ room) }
-    ensures too_large { IsErrOf result TreeFault.TooLarge → room < pairs_in (times flats (other.now ∷ [])) }
+    ensures within { IfOk result (λ made. weight_in made ≤ room) }
+    ensures too_large { IsErrOf result TreeFault.TooLarge → room < weight_in (times flats (other.now ∷ [])) }
 {
     let Flats { mut objects, .. } = flats;
     let left = join_each(objects.as_mut_slice(), other, room)?;
-    let pairs = room - left;
-    Ok(Flats { objects, pairs })
+    let weight = room - left;
+    Ok(Flats { objects, weight })
 }
 
 // Adds an object at the end. The error is want of memory.
@@ -298,7 +310,7 @@ fn push(out: &mut Vec<Flat>, object: Flat) -> Mem<()>
     Ok(out.push(object)?)
 }
 
-// Adds an object followed by another, where there is room for its fields. It answers for how many more there is room.
+// Adds an object followed by another, where there is room for it. It answers how much room is left.
 fn push_one(
     alloc: Global,
     out: &mut Vec<Flat>,
@@ -307,8 +319,8 @@ fn push_one(
     room: usize,
 ) -> Result<usize, TreeFault>
     ensures ok { OnOk result (out.new.items ≡ out.old.items ++ joined object.now other.now ∷ []) }
-    ensures left { IfOk result (λ left. left + length (joined object.now other.now) ≡ room) }
-    ensures too_large { IsErrOf result TreeFault.TooLarge → room < length (joined object.now other.now) }
+    ensures left { IfOk result (λ left. left + weight (joined object.now other.now) ≡ room) }
+    ensures too_large { IsErrOf result TreeFault.TooLarge → room < weight (joined object.now other.now) }
 {
     let both = object.joined(alloc, other)?;
     let left = room_behind(&both, room)?;
@@ -325,8 +337,8 @@ fn push_part(
     room: usize,
 ) -> Result<usize, TreeFault>
     ensures ok { OnOk result (out.new.items ≡ out.old.items ++ map (joined object.now) others.now) }
-    ensures left { IfOk result (λ left. left + pairs_in (map (joined object.now) others.now) ≡ room) }
-    ensures too_large { IsErrOf result TreeFault.TooLarge → room < pairs_in (map (joined object.now) others.now) }
+    ensures left { IfOk result (λ left. left + weight_in (map (joined object.now) others.now) ≡ room) }
+    ensures too_large { IsErrOf result TreeFault.TooLarge → room < weight_in (map (joined object.now) others.now) }
 {
     let mut left = room;
     for other in others {
@@ -344,8 +356,8 @@ fn push_parts(
     room: usize,
 ) -> Result<usize, TreeFault>
     ensures ok { OnOk result (out.new.items ≡ out.old.items ++ map (joined object.now) (flat_map (λ part. part.now) parts.now)) }
-    ensures left { IfOk result (λ left. left + pairs_in (map (joined object.now) (flat_map (λ part. part.now) parts.now)) ≡ room) }
-    ensures too_large { IsErrOf result TreeFault.TooLarge → room < pairs_in (map (joined object.now) (flat_map (λ part. part.now) parts.now)) }
+    ensures left { IfOk result (λ left. left + weight_in (map (joined object.now) (flat_map (λ part. part.now) parts.now)) ≡ room) }
+    ensures too_large { IsErrOf result TreeFault.TooLarge → room < weight_in (map (joined object.now) (flat_map (λ part. part.now) parts.now)) }
 {
     let mut left = room;
     for part in parts {
@@ -362,14 +374,14 @@ fn crossed(
     room: usize,
 ) -> Result<Flats, TreeFault>
     ensures ok { IfOk result (λ made. made ≡ flat_map (λ object. map (joined object) (flat_map (λ part. part.now) parts.now)) firsts.now) }
-    ensures within { IfOk result (λ made. pairs_in made ≤ room) }
-    ensures too_large { IsErrOf result TreeFault.TooLarge → room < pairs_in (flat_map (λ object. map (joined object) (flat_map (λ part. part.now) parts.now)) firsts.now) }
+    ensures within { IfOk result (λ made. weight_in made ≤ room) }
+    ensures too_large { IsErrOf result TreeFault.TooLarge → room < weight_in (flat_map (λ object. map (joined object) (flat_map (λ part. part.now) parts.now)) firsts.now) }
 {
     let mut objects = Vec::new(alloc);
     let mut left = room;
     for object in firsts {
         left = push_parts(alloc, &mut objects, object, parts, left)?;
     }
-    let pairs = room - left;
-    Ok(Flats { objects, pairs })
+    let weight = room - left;
+    Ok(Flats { objects, weight })
 }

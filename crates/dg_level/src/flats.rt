@@ -1,10 +1,10 @@
 // Flat objects that share their fields.
-ghost use Rattle.std.specs.Prelude.{◌≡◌, ◌++◌, ◌∷◌, [], List as Items, IfOk, IfSome, OnOk, length, map, bytes_eq};
+ghost use Rattle.std.specs.Prelude.{◌≡◌, ◌++◌, ◌∷◌, [], List as Items, IfOk, IfSome, OnOk, map, bytes_eq};
 ghost use Rattle.std.specs.Arc.{arc_value};
 ghost use Rattle.std.specs.List.{list_any};
 ghost use Rattle.dg_tree.specs.declared.tree.Field.{Field as Pair};
 ghost use Rattle.dg_shape.specs.Normalize.{with_pair, joined, has_pair};
-ghost use Rattle.dg_level.specs.Flats.{HasKeys};
+ghost use Rattle.dg_level.specs.Flats.{HasKeys, weight};
 
 use crate::flat_keys::FlatKey;
 use dg_tree::Field;
@@ -108,6 +108,16 @@ fn put_key(keys: &mut Option<Box<BTreeSet<FlatKey>>>, pair: &Arc<Field>) -> Mem<
     Ok(())
 }
 
+// What an object of these fields weighs: five bytes a field with what stands behind it, and a brace and a comma.
+fn weight_of(pairs: &[Arc<Field>]) -> usize
+    ensures { result ≡ weight (map arc_value pairs.now) }
+{
+    if pairs.is_empty() {
+        return 0;
+    }
+    2 + 5 * pairs.len()
+}
+
 impl Flat {
     /// No field. It takes no memory.
     pub fn new(alloc: Global) -> Flat
@@ -134,11 +144,11 @@ impl Flat {
         self.pairs.as_slice()
     }
 
-    /// How many fields it has.
-    pub fn len(&self) -> usize
-        ensures { result ≡ length self.now }
+    /// What it weighs: how many bytes it takes in an array at least, with the comma behind it.
+    pub fn weight(&self) -> usize
+        ensures { result ≡ weight self.now }
     {
-        self.pairs.len()
+        weight_of(self.pairs.as_slice())
     }
 
     /// Whether it has a field.

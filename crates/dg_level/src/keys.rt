@@ -69,8 +69,8 @@ fn item_key(alloc: Global, item: &QItem) -> Mem<Str>
     }
 }
 
-// The key of a field.
-fn key_of(alloc: Global, field: &QField) -> Mem<Str>
+/// The key of a field. The error is want of memory.
+pub fn key_of(alloc: Global, field: &QField) -> Mem<Str>
     ensures { IfOk result (λ text. text ≡ key_of field.now) }
 {
     match &field.alias {

@@ -96,8 +96,8 @@ fn pairs_by<S: Snapshot, L: Ledger>(
     Ok(pairs)
 }
 
-// The values of nodes by a key.
-fn values_among<S: Snapshot, L: Ledger>(
+/// The values of nodes by a key, each looked up once. The error is want of memory.
+pub fn values_among<S: Snapshot, L: Ledger>(
     alloc: Global,
     snap: &S,
     key: &By,

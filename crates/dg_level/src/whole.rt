@@ -24,8 +24,8 @@ use dg_values::{List, Mem, OutOfMemory, Steps};
 use std::alloc::Global;
 use std::sync::ledger::Ledger;
 
-// No node.
-fn no_nodes(alloc: Global) -> Uids
+/// No node.
+pub fn no_nodes(alloc: Global) -> Uids
     ensures { result ≡ [] }
 {
     Uids::gathered(Vec::new(alloc))

@@ -1,4 +1,4 @@
--- What `query` does. Queries without variables, aggregates, `@cascade`, `@normalize` and `@recurse` are built.
+-- What `query` does. Queries without `@recurse` are built.
 use Rattle.std.specs.Prelude.{◌≡◌, ℕ, nat_le, ◌==◌, if◌then◌else◌, Bool, true, false, Option, Some, None, List, length, Result, Ok, Err}
 use Rattle.std.specs.Str.Lossy.{utf8_valid_len}
 use Rattle.dg_schema.specs.declared.definition.PredDef.{PredDef}
@@ -14,7 +14,7 @@ use Rattle.dg_check.specs.declared.patterns.Refusal.{Refusal as BadPattern}
 use Rattle.dg_check.specs.Faults.{fault_of}
 use Rattle.dg_check.specs.Outcomes.{IsQueryOutcome}
 use Rattle.dg_level.specs.Forms.{is_built}
-use Rattle.dg_level.specs.Blocks.{answer_of}
+use Rattle.dg_level.specs.Meaning.{overflow_of, answer_of}
 use Rattle.dg_wire.specs.declared.refusal.Refusal.{Refusal}
 use Rattle.dg_wire.specs.declared.refusal.Refusal.TheVariants as refusals
 use Rattle.dg_wire.specs.declared.reply.Reply.{Reply}
@@ -43,9 +43,14 @@ refusal_of_check (faults.BadPage argument) = refusals.BadPage argument
 refusal_of_check (faults.BadDepth n) = refusals.BadDepth n
 refusal_of_check faults.OutOfMemory = refusals.Memory
 
+-- the same, unless a sum over the variable of this name is no number of 64 bits
+abbrev pub summed : Machine → ℕ → Option (List ℕ) → List ℕ → Reply × Machine
+summed machine sid None text = answered machine sid text
+summed machine sid (Some name) text = refused machine (refusals.SumOverflow name)
+
 -- what a query is answered over a graph and its schema, or the fault that was found in it
 abbrev pub answer_or_fault : Machine → ℕ → List PredDef → List Triple → Query → Option CheckFault → Reply × Machine
-answer_or_fault machine sid schema graph query None = answered machine sid (answer_text (answer_of schema graph query))
+answer_or_fault machine sid schema graph query None = summed machine sid (overflow_of schema graph query) (answer_text (answer_of schema graph query))
 answer_or_fault machine sid schema graph query (Some fault) = refused machine (refusal_of_check fault)
 
 -- what the checks find in a query, where these patterns were refused

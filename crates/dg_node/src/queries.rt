@@ -16,9 +16,8 @@ use crate::step::unbuilt;
 use crate::transactions::no_session;
 use dg_check::{CheckFault, Patterns, Plan, check};
 use dg_graph::Snapshot;
-use dg_level::{is_built, run_plan};
+use dg_level::{RunFault, is_built, run_plan};
 use dg_parse::{DqlFault, Query, parse};
-use dg_tree::TreeFault;
 use dg_txn::Txn;
 use dg_values::{List, Mem, OutOfMemory, Steps};
 use dg_wire::{Refusal, Reply};
@@ -31,7 +30,7 @@ use std::sync::ledger::{Blank, Ledger};
 ///
 /// `NoSession` comes where the session has no transaction; then `BadToken`, `TooDeep` and `BadSyntax` at a fault of the text;
 /// then `Unbuilt` where the query is of a form that isn't built (`is_built` of `dg_level`); then what the checks find; then
-/// `AnswerTooLarge`. The error is want of memory.
+/// `SumOverflow` at a sum that is no number of 64 bits; then `AnswerTooLarge`. The error is want of memory.
 pub fn query<P: Patterns>(
     alloc: Global,
     session: &Option<Txn>,
@@ -130,7 +129,8 @@ fn answer<L: Ledger>(alloc: Global, txn: &Txn, sid: u32, plan: &Plan, blank: Bla
             sid,
             body: List::from_vec(text.into_bytes()),
         }),
-        Err(TreeFault::TooLarge) => Ok(Reply::Refused(Refusal::AnswerTooLarge)),
-        Err(TreeFault::OutOfMemory) => Err(OutOfMemory),
+        Err(RunFault::SumOverflow { name }) => Ok(Reply::Refused(Refusal::SumOverflow { name })),
+        Err(RunFault::TooLarge) => Ok(Reply::Refused(Refusal::AnswerTooLarge)),
+        Err(RunFault::OutOfMemory) => Err(OutOfMemory),
     }
 }

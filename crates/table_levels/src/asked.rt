@@ -1,11 +1,12 @@
-// What the fields of a query show at the nodes of its root.
+// What the fields of a query show at the nodes of its root, and what whole queries answer.
 ghost use Rattle.std.specs.Prelude.{◌≡◌, ◌≤◌, ◌<◌, length};
+ghost use Rattle.dg_check.specs.Outcomes.{IsPlanOf};
 
 use crate::ground::{Ground, MOST};
-use dg_check::{Parts, Plan, RegexPatterns, Vars, check};
+use dg_check::{CheckFault, Parts, Plan, RegexPatterns, Vars, check};
 use dg_funcs::root;
 use dg_graph::Plain;
-use dg_level::{Rows, rows_of};
+use dg_level::{Rows, RunFault, rows_of, run_plan};
 use dg_parse::{DqlFault, QBlock, Query, parse};
 use dg_tree::TreeFault;
 use dg_uids::Uids;
@@ -169,5 +170,33 @@ pub(crate) fn size(alloc: Global, ground: &Ground, text: &str) -> Mem<Option<Str
     match made(alloc, ground, LONGEST, text)? {
         Some(made) => Ok(Some(size_text(alloc, &made)?)),
         None => Ok(None),
+    }
+}
+
+// What a checked query answers, or why it has no answer.
+fn plan_text<L: Ledger>(alloc: Global, at: &Plain, plan: &Plan, blank: Blank) -> Mem<String>
+    requires name { blank.name ≡ L.name }
+    requires parts { blank.parts ≡ L.parts }
+    requires some { 0 < blank.parts }
+    requires plan { IsPlanOf at.now.schema plan.now.query plan.now }
+{
+    let mut reads = Steps::<L>::new(blank);
+    match run_plan(alloc, at, plan, &mut reads) {
+        Ok(text) => Ok(text),
+        Err(RunFault::OutOfMemory) => Err(OutOfMemory),
+        Err(fault) => Ok(fault.to_string(alloc)?),
+    }
+}
+
+/// `QUERY`: what all its blocks answer, or why there is no answer.
+pub(crate) fn answer(alloc: Global, ground: &Ground, text: &str) -> Mem<Option<String>> {
+    let Some(query) = query_of(alloc, text)? else {
+        return Ok(None);
+    };
+    let mut maker = RegexPatterns::new(alloc);
+    match check(alloc, query, &ground.at.schema, &mut maker) {
+        Ok(plan) => Ok(Some(plan_text::<Brand>(alloc, &ground.at, &plan, Blank::new(1))?)),
+        Err(CheckFault::OutOfMemory) => Err(OutOfMemory),
+        Err(_) => Ok(None),
     }
 }

@@ -1,5 +1,5 @@
-//! Reads rows from standard input and prints each with its answer: what the fields of a query show at the nodes of its root, over
-//! a graph in memory. A row is the name of a table and its fields, with a tab between any two. The rows `schema` and `set` make
+//! Reads rows from standard input and prints each with its answer: what the fields of a query show at the nodes of its root, or
+//! what the whole query answers, over a graph in memory. A row is the name of a table and its fields, with a tab between any two. The rows `schema` and `set` make
 //! the graph of the rows behind them.
 #![tactic(auto)]
 
@@ -50,6 +50,7 @@ fn answer(alloc: Global, ground: &mut Ground, table: &str, fields: &str) -> Mem<
         "rows" => asked::rows(alloc, ground, fields),
         "within" => asked::within(alloc, ground, fields),
         "size" => asked::size(alloc, ground, fields),
+        "answer" => asked::answer(alloc, ground, fields),
         _ => Ok(None),
     }
 }

@@ -3,7 +3,7 @@ use Rattle.std.specs.Prelude.{IfOk}
 use Rattle.dg_tree.specs.declared.tree.Field.{Field}
 use Rattle.dg_level.specs.Shown.{cascades, objects_at}
 use Rattle.dg_level.specs.Planned.{planned_flats}
-use Rattle.dg_level.specs.FlatLevels.{pairs_of}
+use Rattle.dg_level.specs.FlatLevels.{weight_of}
 use Rattle.dg_level.proofs.MeaningLaws.{planned_flats_mean}
 use Rattle.dg_level.proofs.flat_arrays.block_flats.Goals as goal
 
@@ -29,8 +29,8 @@ returns-clause-too_large g c = λ ds lawful kinds is over.
     let block = c.args.block.now in
     let cascade = cascades false block.dirs in
     let flag : c.cascades.result ≡ cascade = c.cascades.ensures ∙ ap (cascades false) c.as_slice.ensures in
-    let read : pairs_of (planned_flats schema graph vars c.cascades.result c.as_slice-2.result.now c.as_slice-3.result.now) c.as_slice-4.result.now ≡ pairs_of (planned_flats schema graph vars cascade block.fields c.args.kept.now.fields) c.args.level.now =
-    λ i. pairs_of (planned_flats schema graph vars (flag i) (c.as_slice-2.ensures i) (c.as_slice-3.ensures i)) (c.as_slice-4.ensures.items i) in
-    let mean : pairs_of (planned_flats schema graph vars cascade block.fields c.args.kept.now.fields) c.args.level.now ≡ pairs_of (objects_at schema graph ds vars cascade block.fields) c.args.level.now =
-    λ i. pairs_of (λ n. planned_flats_mean schema ds graph vars lawful kinds c.meanings.ensures.filters cascade block.fields c.args.kept.now.fields is.fields n i) c.args.level.now in
-    subst (λ (t : ℕ). 4194304 < t) (read ∙ mean) (c.level_flats.ensures.too_large over)
+    let read : weight_of (planned_flats schema graph vars c.cascades.result c.as_slice-2.result.now c.as_slice-3.result.now) c.as_slice-4.result.now ≡ weight_of (planned_flats schema graph vars cascade block.fields c.args.kept.now.fields) c.args.level.now =
+    λ i. weight_of (planned_flats schema graph vars (flag i) (c.as_slice-2.ensures i) (c.as_slice-3.ensures i)) (c.as_slice-4.ensures.items i) in
+    let mean : weight_of (planned_flats schema graph vars cascade block.fields c.args.kept.now.fields) c.args.level.now ≡ weight_of (objects_at schema graph ds vars cascade block.fields) c.args.level.now =
+    λ i. weight_of (λ n. planned_flats_mean schema ds graph vars lawful kinds c.meanings.ensures.filters cascade block.fields c.args.kept.now.fields is.fields n i) c.args.level.now in
+    subst (λ (t : ℕ). 16777216 < t) (read ∙ mean) (c.level_flats.ensures.too_large over)

@@ -3,9 +3,9 @@ use Rattle.dg_tree.specs.declared.tree.Tree.TheVariants as trees
 use Rattle.dg_tree.specs.Texts.{array_text, tree_text}
 use Rattle.dg_level.specs.Rows.{Written, AreOfLevel}
 use Rattle.dg_level.specs.Shown.{cascades, objects_at}
-use Rattle.dg_level.specs.FlatLevels.{FlatsOf, pairs_of}
+use Rattle.dg_level.specs.FlatLevels.{FlatsOf, weight_of}
 use Rattle.dg_level.proofs.BlockLaws.{all_there}
-use Rattle.dg_level.proofs.FlatArrays.{array_is, pairs_pass, array_passes}
+use Rattle.dg_level.proofs.FlatArrays.{array_is, weight_passes, array_passes}
 use Rattle.dg_level.proofs.flat_arrays.flat_array.Goals as goal
 
 pub returns-in_err-below-clause-too_large : goal.returns-in_err-below-clause-too_large
@@ -13,8 +13,8 @@ returns-in_err-below-clause-too_large g c = λ ds lawful kinds is over.
     let block = c.args.block.now in
     let list = c.args.list.now in
     let flats : FlatsOf = objects_at (g.S.Snapshot.declared c.args.snap.now) (g.S.Snapshot.graph c.args.snap.now) ds c.args.vars.now.variables (cascades false block.dirs) block.fields in
-    let above : 4194304 < pairs_of flats c.in_ok-level.level = c.block_flats.ensures.too_large ds lawful kinds is (search rules) in
-    pairs_pass flats list (subst (λ (level : List ℕ). 4194304 < pairs_of flats level) c.in_ok-level.ensures above)
+    let above : 16777216 < weight_of flats c.in_ok-level.level = c.block_flats.ensures.too_large ds lawful kinds is (search rules) in
+    weight_passes flats list (subst (λ (level : List ℕ). 16777216 < weight_of flats level) c.in_ok-level.ensures above)
 
 pub returns-in_err-flat_array-clause-too_large : goal.returns-in_err-flat_array-clause-too_large
 returns-in_err-flat_array-clause-too_large g c = λ ds lawful kinds is over.

@@ -12,10 +12,10 @@ use Rattle.dg_shape.specs.Normalize.{times, has_pair}
 use Rattle.dg_level.specs.Shown.{remaining}
 use Rattle.dg_level.specs.Planned.{is_single, planned_there, planned_flats}
 use Rattle.dg_level.specs.Levels.{list_of, left_of, leads_to_nodes}
-use Rattle.dg_level.specs.Flats.{pairs_in}
-use Rattle.dg_level.specs.FlatLevels.{FlatsOf, pairs_of, own_trees, with_own, sort_in, list_flats, behind_edge, behind_item, behind_field, behind_fields}
+use Rattle.dg_level.specs.Flats.{weight_in}
+use Rattle.dg_level.specs.FlatLevels.{FlatsOf, weight_of, own_trees, with_own, sort_in, list_flats, behind_edge, behind_item, behind_field, behind_fields}
 use Rattle.dg_level.proofs.ListLaws.{map_twice}
-use Rattle.dg_level.proofs.FlatCounts.{filled_pairs}
+use Rattle.dg_level.proofs.FlatCounts.{filled_weight}
 use Rattle.dg_level.proofs.FlatTurns.{written_back}
 use Rattle.dg_level.proofs.FlatSums.{sums_within, none_of, filled_sum, below_within}
 use Rattle.dg_level.proofs.FlatPlans.{field_alone, field_nodes, after_has, field_next, after_front, after_ended, after_kept, flats_apart}
@@ -49,7 +49,7 @@ behind_edge-returns-clause-too_large g t c = λ f before has over.
     λ j n. times (f n) (list_flats schema graph vars c.args.edge.now c.args.args.now (c.as_slice-2.ensures j) (c.as_slice-3.ensures j) c.args.braces.now (c.as_slice.ensures j) c.args.single c.args.cascade n) in
     let same : after ≡ (λ (n : ℕ). times (f n) (list_flats schema graph vars c.args.edge.now c.args.args.now c.in-Edge.orders c.in-Edge.filters c.args.braces.now c.in-Edge.inner c.args.single c.args.cascade n)) =
     λ j n. behind_edge schema graph vars c.args.edge.now c.args.args.now c.args.braces.now c.args.single c.args.cascade (layer j) n (f n) in
-    subst (λ (h : FlatsOf). 4194304 < pairs_of h c.args.nodes.now) (read ∙ sym same) (c.behind_nodes.ensures.too_large f before has over)
+    subst (λ (h : FlatsOf). 16777216 < weight_of h c.args.nodes.now) (read ∙ sym same) (c.behind_nodes.ensures.too_large f before has over)
 
 -- ---- a field
 
@@ -79,7 +79,7 @@ behind_field-returns-then-not-leads_to_nodes-clause-too_large g t c = λ f befor
     let after : FlatsOf = λ n. behind_field schema graph vars c.args.cascade q k n (f n) in
     let made : FlatsOf = λ n. with_own q.alias (own_trees schema graph vars (out-QItem q.item) (out-Item k.item) n) (f n) in
     let same : after ≡ made = λ j n. field_alone schema graph vars q c.args.cascade k n (f n) none j in
-    subst (λ (h : FlatsOf). 4194304 < pairs_of h c.args.nodes.now) (sym same) (c.behind_own.ensures.too_large f before over)
+    subst (λ (h : FlatsOf). 16777216 < weight_of h c.args.nodes.now) (sym same) (c.behind_own.ensures.too_large f before over)
 
 pub behind_field-returns-clause-flats : goal.behind_field-returns-clause-flats
 behind_field-returns-clause-flats g t c = λ f before.
@@ -115,12 +115,12 @@ behind_field-returns-clause-too_large g t c = λ f before has over.
     λ j n. behind_item schema graph vars (single j) c.args.cascade (out-QItem q.item) (out-Item k.item) n (f n) in
     let same : after ≡ (λ (n : ℕ). behind_item schema graph vars (is_single (sort_in schema (out-QItem q.item))) c.args.cascade (out-QItem q.item) (out-Item k.item) n (f n)) =
     λ j n. field_nodes schema graph vars q c.args.cascade k n (f n) some j in
-    subst (λ (h : FlatsOf). 4194304 < pairs_of h c.args.nodes.now) (read ∙ sym same) (c.behind_item.ensures.too_large f before has over)
+    subst (λ (h : FlatsOf). 16777216 < weight_of h c.args.nodes.now) (read ∙ sym same) (c.behind_item.ensures.too_large f before has over)
 
 -- ---- fields
 
 pub behind_fields-loop-place-init : goal.behind_fields-loop-place-init
-behind_fields-loop-place-init g t c = (c.in_ok-made.ensures, omega (arith, ap (sum_by pairs_in) c.in_ok-made.ensures, none_of c.args.nodes.now))
+behind_fields-loop-place-init g t c = (c.in_ok-made.ensures, omega (arith, ap (sum_by weight_in) c.in_ok-made.ensures, none_of c.args.nodes.now))
 
 pub behind_fields-returns-then-place-kept-clause-flats : goal.behind_fields-returns-then-place-kept-clause-flats
 behind_fields-returns-then-place-kept-clause-flats g t c =
@@ -154,14 +154,14 @@ behind_fields-returns-in_err-made-2-clause-too_large g t c = λ over.
     let lk : l.place < length kept = omega (arith, c.if-place-kept.false) in
     let f : FlatsOf = behind_fields schema graph vars cascade (take l.place fields) (take l.place kept) in
     let after : FlatsOf = λ n. behind_field schema graph vars cascade q k n (f n) in
-    let above : 4194304 < pairs_of after nodes = c.behind_field.ensures.too_large f l.invariant.0 (λ n. after_has schema graph vars cascade (take l.place fields) (take l.place kept) n ([] ∷ []) refl) (search rules) in
+    let above : 16777216 < weight_of after nodes = c.behind_field.ensures.too_large f l.invariant.0 (λ n. after_has schema graph vars cascade (take l.place fields) (take l.place kept) n ([] ∷ []) refl) (search rules) in
     omega (
       arith,
       above,
-      sums_within (λ n. pairs_in (after n)) (λ n. pairs_in (behind_fields schema graph vars cascade fields kept n))
+      sums_within (λ n. weight_in (after n)) (λ n. weight_in (behind_fields schema graph vars cascade fields kept n))
           (λ n. omega (
             arith,
-            ap pairs_in (field_next schema graph vars cascade fields kept l.place q k lt lk c.index-fields-place.is c.index-kept-place.is n),
+            ap weight_in (field_next schema graph vars cascade fields kept l.place q k lt lk c.index-fields-place.is c.index-kept-place.is n),
             after_front schema graph vars cascade fields kept (l.place + 1) n ([] ∷ []),
           ))
           nodes,
@@ -201,11 +201,11 @@ behind_nodes-returns-in_err-below-clause-too_large g t c = λ f before has over.
     let level : c.in_ok-level.level ≡ ascending nat_cmp (flat_map list nodes) =
     c.in_ok-level.ensures ∙ ((λ j. ascending nat_cmp (flat_map (λ (l : List ℕ). l) ((c.as_slice.ensures.value ∙ lists) j))) ∙ ap (ascending nat_cmp) (flat_map-map (λ (l : List ℕ). l) list nodes)) in
     let flats : FlatsOf = planned_flats schema graph vars c.args.cascade c.args.braces.now c.args.inner.now in
-    let above : 4194304 < pairs_of flats c.as_slice-2.result.now = c.level_flats.ensures.too_large (search rules) in
+    let above : 16777216 < weight_of flats c.as_slice-2.result.now = c.level_flats.ensures.too_large (search rules) in
     omega (
       arith,
       above,
-      ap (pairs_of flats) (c.as_slice-2.ensures.items ∙ level),
+      ap (weight_of flats) (c.as_slice-2.ensures.items ∙ level),
       below_within flats (flats_apart schema graph vars c.args.cascade c.args.braces.now c.args.inner.now) f list has nodes,
     )
 
@@ -223,7 +223,7 @@ behind_nodes-returns-in_err-times_each-clause-too_large g t c = λ f before has 
     c.in_ok-level.ensures ∙ ((λ j. ascending nat_cmp (flat_map (λ (l : List ℕ). l) ((c.as_slice.ensures.value ∙ lists) j))) ∙ ap (ascending nat_cmp) (flat_map-map (λ (l : List ℕ). l) list nodes)) in
     let flats : FlatsOf = planned_flats schema graph vars c.args.cascade c.args.braces.now c.args.inner.now in
     let below : c.as_slice-4.result.now ≡ map flats c.in_ok-level.level = c.as_slice-4.ensures.value ∙ (c.in_ok-below.ensures.flats ∙ ap (map flats) c.as_slice-2.ensures.items) in
-    c.times_each.ensures.too_large f flats list nodes (c.as_mut_slice.ensures.value ∙ before) (c.as_slice-3.ensures.value ∙ lists) level below (search rules)
+    c.times_each.ensures.too_large f flats list nodes (c.as_mut_slice.ensures.value ∙ before) (c.as_slice-3.ensures.value ∙ lists) level below (flats_apart schema graph vars c.args.cascade c.args.braces.now c.args.inner.now) (search rules)
 
 pub behind_nodes-returns-clause-flats : goal.behind_nodes-returns-clause-flats
 behind_nodes-returns-clause-flats g t c = λ f before.
@@ -254,8 +254,8 @@ level_flats-returns-in_err-made-clause-too_large g t c = λ over.
     let graph = g.S.Snapshot.graph c.args.snap.now in
     let vars = c.args.vars.now.variables in
     let f : FlatsOf = behind_fields schema graph vars c.args.cascade c.args.fields.now c.args.kept.now in
-    let above : 4194304 < pairs_of f c.args.nodes.now = c.behind_fields.ensures.too_large (search rules) in
-    subst (λ (t : ℕ). 4194304 < t) (sym (λ j. sum_by (λ n. filled_pairs (f n) j) c.args.nodes.now)) above
+    let above : 16777216 < weight_of f c.args.nodes.now = c.behind_fields.ensures.too_large (search rules) in
+    subst (λ (t : ℕ). 16777216 < t) (sym (λ j. sum_by (λ n. filled_weight (f n) j) c.args.nodes.now)) above
 
 pub level_flats-returns-clause-flats : goal.level_flats-returns-clause-flats
 level_flats-returns-clause-flats g t c =
@@ -275,4 +275,4 @@ level_flats-returns-clause-within g t c =
     let many : length c.in_ok-made.made.items ≡ c.in_ok-made.made.len = omega (arith, c.as_mut_slice.ensures.len, ap length c.as_mut_slice.ensures.value) in
     let all : take c.in_ok-made.made.len (c.filled_each.new.made ++ drop (length c.filled_each.new.made) c.in_ok-made.made.items) ≡ c.filled_each.new.made =
     written_back c.filled_each.new.made c.in_ok-made.made.items c.in_ok-made.made.len (omega (arith, many, ap length filled, length-map c.in_ok-made.made.items (filter has_pair))) many in
-    omega (arith, ap (sum_by pairs_in) (all ∙ filled), filled_sum c.in_ok-made.made.items, c.in_ok-made.ensures.within)
+    omega (arith, ap (sum_by weight_in) (all ∙ filled), filled_sum c.in_ok-made.made.items, c.in_ok-made.ensures.within)

@@ -1,13 +1,13 @@
 use Rattle.std.proofs.Common.{◌≡◌, ◌≤◌, map, take}
 use Rattle.std.specs.Prelude.{sum_by}
-use Rattle.dg_level.specs.Flats.{pairs_in}
+use Rattle.dg_level.specs.Flats.{weight_in}
 use Rattle.dg_level.specs.FlatLevels.{behind_fields}
 use Rattle.dg_level.proofs.flat_levels.+flat.Given as goal
 
--- the objects behind the fields so far, and how many fields they have
+-- the objects behind the fields so far, and how many bytes they take
 abbrev pub invariant-behind_fields-loop-place : goal.invariant-behind_fields-loop-place
 invariant-behind_fields-loop-place g l =
     let schema = g.S.Snapshot.declared l.snap in
     let graph = g.S.Snapshot.graph l.snap in
     (l.made.items ≡ map (behind_fields schema graph l.vars.variables l.cascade (take l.place l.fields) (take l.place l.kept)) l.nodes)
-    × (sum_by pairs_in l.made.items ≤ 4194304)
+    × (sum_by weight_in l.made.items ≤ 16777216)

@@ -2,7 +2,7 @@ use Rattle.std.proofs.Common.{◌≡◌, ◌-◌, ◌<◌, ◌≤◌, length, ge
 use Rattle.std.specs.Prelude.{option_to_list}
 use Rattle.dg_parse.specs.declared.query.QItem.TheViews.{out-QItem}
 use Rattle.dg_check.specs.declared.parts.Item.TheViews.{out-Item}
-use Rattle.dg_level.specs.Flats.{pairs_in}
+use Rattle.dg_level.specs.Flats.{weight_in}
 use Rattle.dg_level.specs.Columns.{TreesOf}
 use Rattle.dg_level.specs.FlatLevels.{FlatsOf, changed, own_trees, with_trees}
 use Rattle.dg_level.proofs.FlatTurns.{changed_length, all_changed, next_is, one_changed, none_for_all, used_next}
@@ -21,15 +21,15 @@ returns-in_err-show-clause-too_large g c = λ f before err.
     let shown : option_to_list c.in_ok-tree.tree ≡ own node = c.in_ok-tree.ensures ∙ ap own at in
     let old : get_or l.made l.place c.index-made-place.result ≡ f node = (λ j. get_or (made j) l.place c.index-made-place.result) ∙ next_is after f l.place nodes c.index-made-place.result lt in
     let above = c.show.ensures.too_large (search rules) in
-    let same : pairs_in (with_trees c.args.key.now (option_to_list c.in_ok-tree.tree) (get_or l.made l.place c.index-made-place.result)) ≡ pairs_in (after node) = λ j. pairs_in (with_trees c.args.key.now (shown j) (old j)) in
-    none_for_all after f pairs_in l.made l.place nodes l.used 4194304 made lt l.invariant.1 (omega (arith, above, same, l.invariant.2))
+    let same : weight_in (with_trees c.args.key.now (option_to_list c.in_ok-tree.tree) (get_or l.made l.place c.index-made-place.result)) ≡ weight_in (after node) = λ j. weight_in (with_trees c.args.key.now (shown j) (old j)) in
+    none_for_all after f weight_in l.made l.place nodes l.used 16777216 made lt l.invariant.1 (omega (arith, above, same, l.invariant.2))
 
 pub loop-place-preserved : goal.loop-place-preserved
 loop-place-preserved g c =
     let l = c.loop-place in
     let new = c.show.new.flats in
-    let within : pairs_in new ≤ 4194304 - l.used = c.in_ok-show.ensures.within in
-    let size : c.pairs-used.result ≡ pairs_in new = search rules in
+    let within : weight_in new ≤ 16777216 - l.used = c.in_ok-show.ensures.within in
+    let size : c.weight-used.result ≡ weight_in new = search rules in
     let there_are : l.place < length l.made = omega (arith, c.loop-place-test.true) in (
       λ f before.
           let own : TreesOf = own_trees (g.S.Snapshot.declared c.args.snap.now) (g.S.Snapshot.graph c.args.snap.now) c.args.vars.now.variables (out-QItem c.args.item.now) (out-Item c.args.kept.now) in
@@ -43,7 +43,7 @@ loop-place-preserved g c =
           let old : get_or l.made l.place c.index-made-place.result ≡ f node = (λ j. get_or (made j) l.place c.index-made-place.result) ∙ next_is after f l.place nodes c.index-made-place.result lt in
           let is : new ≡ after node = c.in_ok-show.ensures.ok ∙ (λ j. with_trees c.args.key.now (shown j) (old j)) in
           one_changed after f l.made l.place nodes new made lt is,
-      omega (arith, l.invariant.1, size, used_next pairs_in l.made l.place new there_are),
+      omega (arith, l.invariant.1, size, used_next weight_in l.made l.place new there_are),
       omega (arith, l.invariant.2, size, within),
     )
 

@@ -4,7 +4,8 @@ use Rattle.std.proofs.lemmas.List.{map-append}
 use Rattle.std.proofs.lemmas.List.Edits.{map_over_more}
 use Rattle.dg_tree.specs.declared.tree.Field.{Field}
 use Rattle.dg_shape.specs.Normalize.{with_pair}
-use Rattle.dg_level.proofs.FlatCounts.{pairs_first, none_for_all, left_for_more, still_there}
+use Rattle.dg_level.specs.Flats.{weight}
+use Rattle.dg_level.proofs.FlatCounts.{weight_first, none_for_all, left_for_more, still_there}
 use Rattle.dg_level.proofs.flat_rows.add_to_each.Goals as goal
 
 pub returns-in_err-left-clause-too_large : goal.returns-in_err-left-clause-too_large
@@ -14,11 +15,11 @@ returns-in_err-left-clause-too_large c = λ e.
     let x = c.index-objects-i.result in
     let lt : l.i < length c.args.objects.now = omega (arith, c.loop-i-test.true) in
     let here : x ≡ get_or c.args.objects.now l.i x = still_there (λ object. with_pair object pair) c.args.objects.now l.objects l.i x lt l.invariant.0 c.index-objects-i.is in
-    let longer : l.left < length (with_pair (get_or l.objects l.i x) pair) = c.add_within.ensures.too_large (search rules) in
-    let same = ap (λ object. length (with_pair object pair)) c.index-objects-i.is in
-    let above : l.left < length (with_pair x pair) = omega (arith, longer, same) in
+    let longer : l.left < weight (with_pair (get_or l.objects l.i x) pair) = c.add_within.ensures.too_large (search rules) in
+    let same = ap (λ object. weight (with_pair object pair)) c.index-objects-i.is in
+    let above : l.left < weight (with_pair x pair) = omega (arith, longer, same) in
     none_for_all (map (λ object. with_pair object pair)) (map-append (λ object. with_pair object pair)) c.args.objects.now l.i x lt here
-    l.left c.args.room (with_pair x pair ∷ []) refl l.invariant.1 (omega (arith, above, pairs_first (with_pair x pair) []))
+    l.left c.args.room (with_pair x pair ∷ []) refl l.invariant.1 (omega (arith, above, weight_first (with_pair x pair) []))
 
 pub loop-i-preserved : goal.loop-i-preserved
 loop-i-preserved c =
@@ -30,5 +31,5 @@ loop-i-preserved c =
       ap (set l.objects l.i) (c.in_ok-left.ensures.ok ∙ ap (λ object. with_pair object pair) (sym c.index-objects-i.is))
           ∙ map_over_more (λ object. with_pair object pair) c.args.objects.now l.objects l.i x lt l.invariant.0 c.index-objects-i.is,
       left_for_more (map (λ object. with_pair object pair)) (map-append (λ object. with_pair object pair)) c.args.objects.now l.i x lt here l.left c.in_ok-left.left c.args.room (with_pair x pair ∷ []) refl l.invariant.1
-          (omega (arith, c.in_ok-left.ensures.left, ap (λ object. length (with_pair object pair)) c.index-objects-i.is, pairs_first (with_pair x pair) [])),
+          (omega (arith, c.in_ok-left.ensures.left, ap (λ object. weight (with_pair object pair)) c.index-objects-i.is, weight_first (with_pair x pair) [])),
     )

@@ -1,6 +1,8 @@
 use Rattle.std.proofs.Common.{◌<◌, length, rules, arith}
 use Rattle.dg_check.specs.Parts.{IsBlockOf}
-use Rattle.dg_level.proofs.RunLaws.{block_at, block_written, block_there, block_passes}
+use Rattle.dg_tree.specs.Texts.{field_text}
+use Rattle.dg_level.specs.Blocks.{block_shown}
+use Rattle.dg_level.proofs.RunLaws.{block_at, one_written, one_there, one_passes}
 use Rattle.dg_level.proofs.running.push_blocks.Goals as goal
 
 pub returns-in_err-wrote-clause-too_large : goal.returns-in_err-wrote-clause-too_large
@@ -14,7 +16,7 @@ returns-in_err-wrote-clause-too_large g c = λ ds lawful kinds are e.
     let block = c.index-blocks-at.result in
     let so_far = c.loop-at.invariant ds lawful kinds are in
     let is : IsBlockOf schema ds block c.index-kept-at.result = block_at schema ds blocks c.args.kept.now i block c.index-kept-at.result are lt c.index-blocks-at.is c.index-kept-at.is in
-    block_passes schema graph ds vars blocks i block lt c.index-blocks-at.is c.args.out.now c.loop-at.out c.loop-at.wrote so_far.0 so_far.1 16777216 (c.push_block.ensures.too_large ds lawful kinds is (search rules))
+    one_passes (block_shown schema graph ds vars) field_text blocks i block lt c.index-blocks-at.is c.args.out.now c.loop-at.out c.loop-at.wrote so_far.0 so_far.1 16777216 (c.push_block.ensures.too_large ds lawful kinds is (search rules))
 
 pub loop-at-preserved : goal.loop-at-preserved
 loop-at-preserved g c = λ ds lawful kinds are.
@@ -27,6 +29,6 @@ loop-at-preserved g c = λ ds lawful kinds are.
     let block = c.index-blocks-at.result in
     let so_far = c.loop-at.invariant ds lawful kinds are in
     let is : IsBlockOf schema ds block c.index-kept-at.result = block_at schema ds blocks c.args.kept.now i block c.index-kept-at.result are lt c.index-blocks-at.is c.index-kept-at.is in (
-      block_written schema graph ds vars blocks i block lt c.index-blocks-at.is c.args.out.now c.loop-at.out c.loop-at.wrote so_far.0 so_far.1 c.push_block.new.out (c.in_ok-wrote.ensures.ok ds lawful kinds is),
-      block_there schema graph ds vars blocks i block lt c.index-blocks-at.is c.args.out.now c.loop-at.out c.loop-at.wrote so_far.0 so_far.1 c.in_ok-wrote.wrote (c.in_ok-wrote.ensures.wrote ds),
+      one_written (block_shown schema graph ds vars) field_text blocks i block lt c.index-blocks-at.is c.args.out.now c.loop-at.out c.loop-at.wrote so_far.0 so_far.1 c.push_block.new.out (c.in_ok-wrote.ensures.ok ds lawful kinds is),
+      one_there (block_shown schema graph ds vars) field_text blocks i block lt c.index-blocks-at.is c.args.out.now c.loop-at.out c.loop-at.wrote so_far.0 so_far.1 c.in_ok-wrote.wrote (c.in_ok-wrote.ensures.wrote ds),
     )

@@ -1,6 +1,5 @@
 use Rattle.std.proofs.Common.{length, sym, ap, ◌∙◌}
-use Rattle.dg_check.specs.Places.{places_of_query}
-use Rattle.dg_check.specs.Variables.{definitions_in}
+use Rattle.dg_level.specs.Meaning.{defined_in}
 use Rattle.dg_level.proofs.BlockMeanings.{as_many}
 use Rattle.dg_level.proofs.running.run_plan.Goals as goal
 
@@ -8,5 +7,4 @@ pub answer_of_blocks-requires : goal.answer_of_blocks-requires
 answer_of_blocks-requires g c =
     let schema = g.S.Snapshot.declared c.args.snap.now in
     let plan = c.args.plan.now in
-    let ds = definitions_in schema (places_of_query plan.query) in
-    record { alike = ap length c.as_slice-blocks.ensures ∙ (as_many schema ds plan.query.blocks plan.parts c.requires.plan.parts ∙ sym (ap length c.as_slice-kept.ensures)) }
+    record { alike = ap length c.as_slice-blocks.ensures ∙ (as_many schema (defined_in schema plan.query) plan.query.blocks plan.parts c.requires.plan.parts ∙ sym (ap length c.as_slice-kept.ensures)) }
