@@ -23,8 +23,3 @@ pub mod Keys
 pub mod Levels
 pub mod Flats
 pub mod FlatLevels
-pub mod Unfolding
-pub mod Recursions
-pub mod Looping
-pub mod Reaching
-pub mod Placing

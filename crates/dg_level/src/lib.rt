@@ -25,16 +25,11 @@ mod keys;
 mod laws;
 mod levels;
 mod lists;
-mod looped;
 mod order_keys;
-mod placing;
-mod reaching;
-mod recursions;
 mod rows;
 mod running;
 mod sorts;
 mod variables;
-mod walked;
 mod whole;
 mod writing;
 
