@@ -23,7 +23,6 @@ from collections.abc import Callable, Iterator
 from pathlib import Path
 from typing import NamedTuple, Union
 
-from plain_answers import RECURSION_IS_BUILT
 
 PROGRAM = Path(__file__).resolve().parent.parent / "crates/dgraph/out/dgraph"
 STATEMENTS = 10_000
@@ -184,8 +183,8 @@ RECURSIONS = [
     Nested(f"{LOOPS} no name", NAMES, all_to_all, recursion("depth: 32, loop: true"), CLIQUES),
     Nested(f"{LOOPS} pages of one", NAMES, all_named, recursion("depth: 32, loop: true", "name friend (first: 1)"), CLIQUES),
 ]
-# What is asked: recursions as soon as the program answers them.
-ASKED = [*QUERIES, *(RECURSIONS if RECURSION_IS_BUILT else [])]
+# What is asked.
+ASKED = [*QUERIES, *RECURSIONS]
 
 
 def frame(head: str, body: str) -> bytes:

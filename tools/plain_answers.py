@@ -20,15 +20,8 @@ from plain_tokens import Refusal
 from plain_values import INT, NODE, TEXT, Posting, json_text, read_posting
 from plain_variables import Variable, aggregate_objects, find_variables, refuse_overflow
 
-# Whether the program answers queries with `@recurse`; as long as it doesn't, they are refused.
-RECURSION_IS_BUILT = False
 HOLDS = {name: getattr(operator, name) for name in COMPARISONS}
 REFUSALS = {"T": (3, "BadToken"), "D": (5, "TooDeep"), "S": (4, "BadSyntax")}
-
-
-def is_built(block: Block) -> bool:
-    """Whether the program answers queries with such a block."""
-    return RECURSION_IS_BUILT or not asks(block.directives, "recurse")
 
 
 # ---------------------------------------------------------------------------------------------------
@@ -170,15 +163,12 @@ class View:
         return f'{{"data":{{{",".join(self.block(block) for block in blocks if block.name != "var")}}}}}'
 
 
-def built_blocks(text: str) -> list[Block]:
-    """The blocks of a query that is built; else a refusal."""
+def blocks_of(text: str) -> list[Block]:
+    """The blocks of a query; else a refusal."""
     try:
-        blocks = read_query(text)
+        return read_query(text)
     except Fault as fault:
         raise Refusal(*REFUSALS[fault.letter], fault.offset) from None
-    if not all(is_built(block) for block in blocks):
-        raise Refusal(98, "Unbuilt")
-    return blocks
 
 
 def view_of(graph: Graph, schema: Schema, blocks: list[Block]) -> View:
@@ -190,7 +180,7 @@ def view_of(graph: Graph, schema: Schema, blocks: list[Block]) -> View:
 
 def answer_of(graph: Graph, schema: Schema, text: str) -> str:
     """The answer to a query over a graph under a schema; else a refusal."""
-    blocks = built_blocks(text)
+    blocks = blocks_of(text)
     check(schema, blocks)
     view = view_of(graph, schema, blocks)
     refuse_overflow(view, blocks)

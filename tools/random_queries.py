@@ -9,7 +9,6 @@ from __future__ import annotations
 import random
 import re
 
-import plain_answers
 from random_words import BAD_PATTERNS, EDGES, NO_VALUES, NODES, NUMBERS, PATTERNS, PREDICATES, TEXTS, VALUES
 
 NAMES = [*"xyzabcABC_", "x1", "x2", "x.y", "as", "var", "uid", "friend", *(f"v{number}" for number in range(40))]
@@ -260,7 +259,7 @@ class Queries(random.Random):
             return f"{name}() {{ {self.aggregates()} }}"
         arguments = self.arguments() if self.one_in(3) else []
         said = ", ".join([f"func: {self.function(True)}", *arguments])
-        if self.one_in(8 if plain_answers.RECURSION_IS_BUILT else 80):
+        if self.one_in(8):
             return f"{name}({said}) {self.recursion()}"
         directives = self.list_directives(2.5, ["@cascade", "@normalize"])
         shape = ("@cascade" in directives, "@normalize" in directives)

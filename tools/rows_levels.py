@@ -2,7 +2,7 @@
 """Prints the rows of crates/table_levels: `rows_levels.py stdin` the rows, `rows_levels.py stdout` with their answers.
 
 Graphs and queries are random. The answers come from `plain_levels.py`, which goes node by node over triples alone. The rows of whole
-queries stand in `rows_variables.py` and, as soon as `@recurse` is built, in `rows_recursions.py`.
+queries stand in `rows_variables.py` and `rows_recursions.py`.
 """
 
 from __future__ import annotations
@@ -14,7 +14,7 @@ from typing import Optional
 
 import rows_recursions
 import rows_variables
-from plain_answers import RECURSION_IS_BUILT, View
+from plain_answers import View
 from plain_levels import LONGEST_ANSWER, Made, shown, whole
 from plain_queries import read_query
 from rows_graphs import RING, SCHEMA, graph_of, graph_rows, random_arguments, random_filter, random_function, random_triples
@@ -253,13 +253,11 @@ def rows() -> Iterator[tuple[str, Optional[str]]]:
     yield "# A graph of 30 nodes with all edges between them, and cascades. Wanted: counted by hand.", ""
     yield from cascade_ring_rows()
     yield from rows_variables.rows()
-    if RECURSION_IS_BUILT:
-        yield from rows_recursions.rows()
+    yield from rows_recursions.rows()
     yield "# A graph of 200 nodes with all edges between them. Wanted: counted by hand.", ""
     yield from ring_rows()
     yield from rows_variables.ring_rows()
-    if RECURSION_IS_BUILT:
-        yield from rows_recursions.ring_rows()
+    yield from rows_recursions.ring_rows()
     yield "# Rows that can't be read.", ""
     yield from ((row, None) for row in HAND)
 

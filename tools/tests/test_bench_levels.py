@@ -22,13 +22,12 @@ class Asked(unittest.TestCase):
             self.assertTrue(all(reply.startswith(b"ok ") for reply in done.replies[:-1]), query.name)
             self.assertRegex(done.replies[-1], b"\\A(ok query 1 [0-9]+\n|error 17 AnswerTooLarge\n\\Z)", query.name)
 
-    def test_each_recursion_is_answered_where_it_is_built(self) -> None:
-        with mock.patch("plain_answers.RECURSION_IS_BUILT", True):
-            for query in bench.RECURSIONS:
-                size = 6 if query.sizes else 20
-                requests = [*bench.load(query, size), bench.frame("query 1", query.query(size))]
-                reply = plain.run(b"".join(requests)).replies[-1]
-                self.assertRegex(reply, b"\\A(ok query 1 [0-9]+\n|error 17 AnswerTooLarge\n\\Z)", query.name)
+    def test_each_recursion_is_answered(self) -> None:
+        for query in bench.RECURSIONS:
+            size = 6 if query.sizes else 20
+            requests = [*bench.load(query, size), bench.frame("query 1", query.query(size))]
+            reply = plain.run(b"".join(requests)).replies[-1]
+            self.assertRegex(reply, b"\\A(ok query 1 [0-9]+\n|error 17 AnswerTooLarge\n\\Z)", query.name)
 
     def test_longest_queries_fit_into_a_body(self) -> None:
         for query in bench.ASKED:

@@ -4,7 +4,6 @@ from __future__ import annotations
 
 import re
 import unittest
-from unittest import mock
 
 import plain_machine as plain
 from dgraph_shell.help import EXAMPLES
@@ -220,11 +219,6 @@ class Answers(unittest.TestCase):
     def test_empty_brackets(self) -> None:
         by_itself = self.reply("{ q(func: has(name)) { name } }")
         self.assertEqual(self.reply("{ q(func: has(name)) { name() } }"), by_itself)
-
-    def test_recursion_is_refused_before_all_checks_as_long_as_it_isnt_built(self) -> None:
-        for query in ("{ q(func: has(name)) @recurse(depth: 2) { name } }", "{ q(func: uid(x)) { uid } r(func: has(name)) @recurse { } }"):
-            with mock.patch("plain_answers.RECURSION_IS_BUILT", False):
-                self.assertEqual(self.reply(query), "error 98 Unbuilt", query)
 
     def test_very_long_numbers(self) -> None:
         zeros = "0" * 10_000

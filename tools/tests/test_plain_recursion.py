@@ -27,7 +27,6 @@ mutate 1
 """
 
 
-@mock.patch("plain_answers.RECURSION_IS_BUILT", True)
 class ByHand(unittest.TestCase):
     """1, 2 and 3 lead to one another in a circle; 4, 5 and 6 show nothing of themselves and lead to 3; 8 leads to itself and to 1."""
 
@@ -154,7 +153,6 @@ class Agreement(unittest.TestCase):
         met["deep"] += "]}]}]" in wanted
 
 
-@mock.patch("plain_answers.RECURSION_IS_BUILT", True)
 class Cliques(unittest.TestCase):
     """Where each node leads to each there are more ways than can be followed."""
 

@@ -14,14 +14,12 @@ from unittest import mock
 
 import plain_machine as plain
 import random_scripts as scripts
-from plain_answers import RECURSION_IS_BUILT
 from plain_checks import places_of, uses_at
 from plain_queries import FUNCTIONS, read_query
 from tests.helpers import SECONDS, TOOLS, InFolder
 
 BUILT = {f"ok {verb}" for verb in ("alter", "begin", "mutate", "query", "commit", "discard")}
-REFUSED = {f"error {number}" for number in (*range(1, 12), 13, 14, 15, 16, 19, 20, 22, 27, 98)}
-OF_RECURSION = {"error 12"} if RECURSION_IS_BUILT else set()
+REFUSED = {f"error {number}" for number in (*range(1, 17), 19, 20, 22, 27, 98)}
 COMPARE = [sys.executable, "-B", TOOLS / "random_scripts.py", "compare"]
 
 # A program that writes what it was told, says it, and ends so, however long that takes.
@@ -46,7 +44,7 @@ class Reach(unittest.TestCase):
             faults += done.fault is not None
             for reply in done.replies:
                 seen.add(b" ".join(reply.split(maxsplit=2)[:2]).decode())
-        self.assertEqual(seen - {"error 17"}, BUILT | REFUSED | OF_RECURSION)
+        self.assertEqual(seen - {"error 17"}, BUILT | REFUSED)
         self.assertGreater(faults, 5)
 
     def test_enough_replies_are_conflicts_by_each_kind_of_key(self) -> None:
@@ -157,7 +155,7 @@ class Reach(unittest.TestCase):
                 if request.verb == "query" and b"@recurse" in request.body:
                     asked[scripts.kind_of(reply)] += 1
                     asked["shown"] += b"[{" in reply
-        self.assertGreater(asked["shown" if RECURSION_IS_BUILT else "error 98"], 20, asked)
+        self.assertGreater(asked["shown"], 20, asked)
 
     def test_many_sessions_write_the_same_nodes(self) -> None:
         done = plain.run(scripts.script(0))

@@ -38,7 +38,7 @@ bare_shown sorts.Values values list = refl
 bare_shown sorts.Node values list = ap first_tree (none_shown list)
 bare_shown sorts.Nodes values list = ap as_array (none_shown list)
 
-own_is : (sort : Sort) (values : List Tree) (counts : List (List ℕ)) (at : FieldsOf) (list : List ℕ) → leads_to_nodes sort ≡ false → edge_shown sort values counts at list ≡ own_shown sort values
+pub own_is : (sort : Sort) (values : List Tree) (counts : List (List ℕ)) (at : FieldsOf) (list : List ℕ) → leads_to_nodes sort ≡ false → edge_shown sort values counts at list ≡ own_shown sort values
 own_is sorts.Nothing values counts at list e = refl
 own_is sorts.Values values counts at list e = refl
 own_is sorts.Node values counts at list e = absurd (true≢false e)

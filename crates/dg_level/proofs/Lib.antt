@@ -28,6 +28,11 @@ pub mod FlatRoom
 pub mod FlatPlans
 pub mod FlatTexts
 pub mod FlatArrays
+pub mod LoopLaws
+pub mod LoopRows
+pub mod LoopUnfold
+pub mod LoopFetch
+pub mod LoopMeans
 pub mod KindPlaces
 pub mod KindSteps
 pub mod KindFields
@@ -41,3 +46,6 @@ pub mod OrderFree
 pub mod OrderServes
 pub mod GivenLaws
 pub mod DefiningLaws
+pub mod ReachLaws
+pub mod PlaceLaws
+pub mod WalkedLaws

@@ -119,7 +119,7 @@ shown_within front rows = omega (arith, total_joined front (objects_of rows), ro
     shown [] = omega arith
     shown (item ∷ items) = omega (arith, items_within (item ∷ items), total_first (array_text (item ∷ items)) [])
 
-length_flat : (texts : List (List ℕ)) → length (flat_map (λ text. text) texts) ≡ total texts
+pub length_flat : (texts : List (List ℕ)) → length (flat_map (λ text. text) texts) ≡ total texts
 length_flat [] = refl
 length_flat (text ∷ texts) = omega (arith, length-append text (flat_map (λ text. text) texts), length_flat texts, total_first text texts)
 
@@ -160,7 +160,7 @@ module _ (f : ℕ → List ℕ) where
 
   module _ {X : Type 0} (list_of : X → List ℕ) (holds : X → List ℕ) (each : (x : X) → total (map f (list_of x)) ≤ length (holds x)) where
     -- the nodes of all lists, as often as they are there, in the texts that hold the lists
-    all_within : (xs : List X) → total (map f (flat_map list_of xs)) ≤ total (map holds xs)
+    pub all_within : (xs : List X) → total (map f (flat_map list_of xs)) ≤ total (map holds xs)
     all_within [] = omega arith
     all_within (x ∷ xs) =
         omega (

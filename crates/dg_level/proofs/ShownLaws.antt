@@ -99,7 +99,7 @@ module _ (name : List ℕ) (names : List (List ℕ)) (at : FieldsOf) (list : Lis
 
 -- ---- the nodes of a list are of the level below
 
-at_place : (list : ℕ → List ℕ) (nodes : List ℕ) (place node u : ℕ) → slice_get nodes place ≡ Some node → has nat_cmp (list node) u ≡ true → has nat_cmp (flat_map list nodes) u ≡ true
+pub at_place : (list : ℕ → List ℕ) (nodes : List ℕ) (place node u : ℕ) → slice_get nodes place ≡ Some node → has nat_cmp (list node) u ≡ true → has nat_cmp (flat_map list nodes) u ≡ true
 at_place list [] place node u e h = absurd (cc)
 at_place list (n ∷ nodes) zero node u e h =
     let same : n ≡ node = cc in
@@ -159,7 +159,7 @@ module _ (names : List (List ℕ)) (at : FieldsOf) (list : List ℕ) where
       )
 
 -- so at one node
-rows_shown : (single : Bool) (names : List (List ℕ)) (at : FieldsOf) (list : List ℕ) → (single ≡ true → length list ≤ 1)
+pub rows_shown : (single : Bool) (names : List (List ℕ)) (at : FieldsOf) (list : List ℕ) → (single ≡ true → length list ≤ 1)
     → total (map (λ n. row_text (at n)) list) ≤ length (flat_map tree_text (edge_shown (sort_below single) [] names at list))
 rows_shown false names at list short = in_items names at list
 rows_shown true [] at list short = in_first [] at list (short refl)

@@ -45,7 +45,7 @@ none_taken (fields ∷ all) = refl
 pub row_begins : (all : List FieldsOf) (n : ℕ) (begun : List ℕ) → begun ≡ [] → begun ≡ row_text (shown_by (take 0 all) n)
 row_begins all n begun none = none ∙ sym (ap (λ fs. row_text (shown_by fs n)) (none_taken all))
 
-shown_more : (all : List FieldsOf) (i n : ℕ) → i < length all → shown_by (take (i + 1) all) n ≡ shown_by (take i all) n ++ get_or all i nothing n
+pub shown_more : (all : List FieldsOf) (i n : ℕ) → i < length all → shown_by (take (i + 1) all) n ≡ shown_by (take i all) n ++ get_or all i nothing n
 shown_more all i n lt =
     ap (λ fs. shown_by fs n) (take_more all i nothing lt)
     ∙ flat_map-append (λ (fields : FieldsOf). fields n) (take i all) (get_or all i nothing ∷ [])
@@ -56,7 +56,7 @@ row_length [] more = omega arith
 row_length (byte ∷ row) more = omega (arith, parts_within ((byte ∷ row) ∷ more), total_first (byte ∷ row) more)
 
 -- a front of a row is no longer than the row
-front_within : (all : List FieldsOf) (i n : ℕ) → length (row_text (shown_by (take i all) n)) ≤ length (row_text (shown_by all n))
+pub front_within : (all : List FieldsOf) (i n : ℕ) → length (row_text (shown_by (take i all) n)) ≤ length (row_text (shown_by all n))
 front_within all i n =
     let front = shown_by (take i all) n in
     let rest = shown_by (drop i all) n in

@@ -16,7 +16,9 @@ use Rattle.dg_tree.specs.declared.tree.Tree.{Tree}
 use Rattle.dg_tree.specs.declared.tree.Tree.TheVariants as trees
 use Rattle.dg_tree.specs.declared.tree.Field.{Field}
 use Rattle.dg_level.specs.Aggregates.{aggregates_shown}
+use Rattle.dg_level.specs.declared.recursions.Recursion.{Recursion}
 use Rattle.dg_level.specs.Lists.{keys_for, passed_all}
+use Rattle.dg_level.specs.Recursions.{recursion_in, recursed_at}
 use Rattle.dg_level.specs.Shown.{under, list_shown, cascades, remaining, counts_in, fields_at, whole_at, objects_at}
 
 -- ---- the nodes of a block
@@ -55,9 +57,22 @@ nested_shown schema graph ds vars block nodes = list_shown (counts_in schema gra
 abbrev pub flat_shown : List PredDef → List Triple → List Definition → List Variable → QBlock → List ℕ → List Tree
 flat_shown schema graph ds vars block nodes = map trees.Node (flat_map (objects_at schema graph ds vars (cascades false block.dirs) block.fields) nodes)
 
+-- what they unfold to
+abbrev pub recursed_shown : List PredDef → List Triple → List Definition → List Variable → QBlock → Recursion → List ℕ → List Tree
+recursed_shown schema graph ds vars block recursion nodes = list_shown [] (recursed_at schema graph ds vars recursion.again recursion.depth block.fields) nodes
+
+-- what they show by themselves or as flat objects, where nothing recurs
+abbrev pub plain_shown : List PredDef → List Triple → List Definition → List Variable → QBlock → List ℕ → List Tree
+plain_shown schema graph ds vars block nodes = if list_any is_normalize block.dirs then flat_shown schema graph ds vars block nodes else nested_shown schema graph ds vars block nodes
+
+-- what they show, where there is such a recursion or none
+abbrev pub trees_shown : List PredDef → List Triple → List Definition → List Variable → QBlock → List ℕ → Option Recursion → List Tree
+trees_shown schema graph ds vars block nodes None = plain_shown schema graph ds vars block nodes
+trees_shown schema graph ds vars block nodes (Some recursion) = recursed_shown schema graph ds vars block recursion nodes
+
 -- what the nodes of a list show: an array, also where nothing stands in it
 abbrev pub array_shown : List PredDef → List Triple → List Definition → List Variable → QBlock → List ℕ → Tree
-array_shown schema graph ds vars block nodes = trees.Array (if list_any is_normalize block.dirs then flat_shown schema graph ds vars block nodes else nested_shown schema graph ds vars block nodes)
+array_shown schema graph ds vars block nodes = trees.Array (trees_shown schema graph ds vars block nodes (recursion_in block.dirs))
 
 -- the same under the block's name
 abbrev pub nodes_shown : List PredDef → List Triple → List Definition → List Variable → QBlock → List ℕ → Field

@@ -4,7 +4,6 @@ pub mod Lists
 pub mod Shown
 pub mod Planned
 pub mod OrderKeys
-pub mod Forms
 pub mod Faults
 pub mod Aggregates
 pub mod PlannedAggregates
@@ -23,3 +22,8 @@ pub mod Keys
 pub mod Levels
 pub mod Flats
 pub mod FlatLevels
+pub mod Unfolding
+pub mod Recursions
+pub mod Looping
+pub mod Reaching
+pub mod Placing

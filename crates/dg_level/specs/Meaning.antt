@@ -33,7 +33,6 @@ first_name (x ∷ names) = Some x
 abbrev pub overflow_of : List PredDef → List Triple → Query → Option (List ℕ)
 overflow_of schema graph query = first_name (sums_beyond (defined_in schema query) (variables_of schema graph query) query.blocks)
 
--- what a query answers: its blocks in the order of the text, without those that are hidden. It is for the queries that `is_built`
--- tells: nothing recurs.
+-- what a query answers: its blocks in the order of the text, without those that are hidden
 abbrev pub answer_of : List PredDef → List Triple → Query → List Field
 answer_of schema graph query = blocks_shown schema graph (defined_in schema query) (variables_of schema graph query) query.blocks

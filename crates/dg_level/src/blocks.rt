@@ -1,5 +1,5 @@
 // The list of a block, and the array of what its nodes show.
-ghost use Rattle.std.specs.Prelude.{◌≡◌, ◌<◌, ◌∷◌, [], List, length, IfOk, IsErrOf};
+ghost use Rattle.std.specs.Prelude.{◌≡◌, ◌<◌, ◌≤◌, ◌∷◌, [], List, length, IfOk, IsErrOf};
 ghost use Rattle.dg_graph.specs.Graphs.{IsLawful};
 ghost use Rattle.dg_check.specs.Parts.{IsBlockOf};
 ghost use Rattle.dg_check.specs.Variables.{Definition};
@@ -7,7 +7,7 @@ ghost use Rattle.dg_funcs.specs.Laws.{AreOfKind};
 ghost use Rattle.dg_shape.specs.Orders.{ordered, page};
 ghost use Rattle.dg_tree.specs.Texts.{tree_text};
 ghost use Rattle.dg_tree.specs.declared.tree.Tree.TheVariants as trees;
-ghost use Rattle.dg_level.specs.Blocks.{nodes_of_block, left_of_block, nested_shown, array_shown};
+ghost use Rattle.dg_level.specs.Blocks.{nodes_of_block, left_of_block, nested_shown, recursed_shown, plain_shown, array_shown};
 ghost use Rattle.dg_level.specs.Planned.{planned_keys};
 ghost use Rattle.dg_level.specs.PlannedBlocks.{planned_root, planned_nodes};
 
@@ -16,6 +16,7 @@ use crate::flat_arrays::flat_array;
 use crate::keys::counts_of;
 use crate::lists::passing_each;
 use crate::order_keys::{key_values, keys_over};
+use crate::recursions::{Recursion, recursed_rows, recursion_in};
 use crate::whole::{left_list, level_of};
 use crate::writing::number_objects;
 use crate::{Rows, rows_of};
@@ -169,7 +170,66 @@ fn nested_array<S: Snapshot, L: Ledger>(
     Ok(array)
 }
 
-/// The array of what the nodes of a list show, as the one row: flat objects where the block is normalized.
+// The array of what the nodes of a list unfold to. What a node unfolds to is made once, also where it stands there more than once.
+fn recursed_array<S: Snapshot, L: Ledger>(
+    alloc: Global,
+    snap: &S,
+    block: &QBlock,
+    kept: &Parts,
+    recursion: Recursion,
+    vars: &Vars,
+    list: &[u64],
+    reads: &mut Steps<L>,
+) -> Result<Rows, TreeFault>
+    requires least { 1 ≤ recursion.depth }
+    requires most { recursion.depth ≤ 32 }
+    ensures ok { (ds : List Definition) → IsLawful (S.declared snap.now) (S.graph snap.now) → AreOfKind ds vars.now.variables → IsBlockOf (S.declared snap.now) ds block.now kept.now
+        → IfOk result (λ rows. rows.rows ≡ tree_text (trees.Array (recursed_shown (S.declared snap.now) (S.graph snap.now) ds vars.now.variables block.now recursion list.now)) ∷ []) }
+    ensures too_large { (ds : List Definition) → IsLawful (S.declared snap.now) (S.graph snap.now) → AreOfKind ds vars.now.variables → IsBlockOf (S.declared snap.now) ds block.now kept.now
+        → IsErrOf result TreeFault.TooLarge → 16777216 < length (tree_text (trees.Array (recursed_shown (S.declared snap.now) (S.graph snap.now) ds vars.now.variables block.now recursion list.now))) }
+{
+    let fields = block.fields.as_slice();
+    let level = level_of(alloc, list)?;
+    let below = recursed_rows(
+        alloc,
+        snap,
+        MOST,
+        recursion,
+        fields,
+        kept.fields.as_slice(),
+        vars,
+        &level,
+        reads,
+    )?;
+    let mut array = Rows::within(alloc, MOST);
+    array.array(&[], list, &level, &below)?;
+    array.close()?;
+    Ok(array)
+}
+
+// The array of what they show by themselves, or as flat objects.
+fn plain_array<S: Snapshot, L: Ledger>(
+    alloc: Global,
+    snap: &S,
+    block: &QBlock,
+    kept: &Parts,
+    vars: &Vars,
+    list: &[u64],
+    reads: &mut Steps<L>,
+) -> Result<Rows, TreeFault>
+    ensures ok { (ds : List Definition) → IsLawful (S.declared snap.now) (S.graph snap.now) → AreOfKind ds vars.now.variables → IsBlockOf (S.declared snap.now) ds block.now kept.now
+        → IfOk result (λ rows. rows.rows ≡ tree_text (trees.Array (plain_shown (S.declared snap.now) (S.graph snap.now) ds vars.now.variables block.now list.now)) ∷ []) }
+    ensures too_large { (ds : List Definition) → IsLawful (S.declared snap.now) (S.graph snap.now) → AreOfKind ds vars.now.variables → IsBlockOf (S.declared snap.now) ds block.now kept.now
+        → IsErrOf result TreeFault.TooLarge → 16777216 < length (tree_text (trees.Array (plain_shown (S.declared snap.now) (S.graph snap.now) ds vars.now.variables block.now list.now))) }
+{
+    if normalizes(block.dirs.as_slice()) {
+        return flat_array(alloc, snap, block, kept, vars, list, reads);
+    }
+    nested_array(alloc, snap, block, kept, vars, list, reads)
+}
+
+/// The array of what the nodes of a list show, as the one row: what they unfold to where the block has a recursion, and flat
+/// objects where it is normalized.
 ///
 /// `TooLarge` comes only where the array has more than 16,777,216 bytes. The other error is want of memory.
 pub fn array_shown<S: Snapshot, L: Ledger>(
@@ -186,8 +246,10 @@ pub fn array_shown<S: Snapshot, L: Ledger>(
     ensures too_large { (ds : List Definition) → IsLawful (S.declared snap.now) (S.graph snap.now) → AreOfKind ds vars.now.variables → IsBlockOf (S.declared snap.now) ds block.now kept.now
         → IsErrOf result TreeFault.TooLarge → 16777216 < length (tree_text (array_shown (S.declared snap.now) (S.graph snap.now) ds vars.now.variables block.now list.now)) }
 {
-    if normalizes(block.dirs.as_slice()) {
-        return flat_array(alloc, snap, block, kept, vars, list, reads);
+    match recursion_in(block.dirs.as_slice()) {
+        None => plain_array(alloc, snap, block, kept, vars, list, reads),
+        Some(recursion) => {
+            recursed_array(alloc, snap, block, kept, recursion, vars, list, reads)
+        }
     }
-    nested_array(alloc, snap, block, kept, vars, list, reads)
 }

@@ -28,7 +28,7 @@ use std::alloc::Global;
 use std::sync::ledger::Ledger;
 
 // An equal edge. The error is want of memory.
-fn copy_edge(alloc: Global, edge: &QEdge) -> Mem<QEdge>
+pub fn copy_edge(alloc: Global, edge: &QEdge) -> Mem<QEdge>
     ensures { IfOk result (λ e. e ≡ edge.now) }
 {
     let pred = edge.pred.copy(alloc)?;
@@ -68,7 +68,7 @@ fn values_content(
 }
 
 // What is shown under an edge without braces. The error is want of memory.
-fn bare_content<S: Snapshot>(alloc: Global, snap: &S, edge: &QEdge, kept: &Item) -> Mem<Content>
+pub fn bare_content<S: Snapshot>(alloc: Global, snap: &S, edge: &QEdge, kept: &Item) -> Mem<Content>
     ensures shows { (vars : Items Known) (nodes : Items ℕ) → IfOk result (λ c. ShowsBy (S.graph snap.now) vars nodes c (bare_trees (S.declared snap.now) (S.graph snap.now) edge.now (out-Item kept.now))) }
     ensures held { IfOk result (λ c. (held_by c ≡ 0) × (room_of c ≡ 0)) }
 {
@@ -83,7 +83,7 @@ fn bare_content<S: Snapshot>(alloc: Global, snap: &S, edge: &QEdge, kept: &Item)
 }
 
 // The value of a variable, as it is kept.
-fn value_content(kept: &Item) -> Content
+pub fn value_content(kept: &Item) -> Content
     ensures shows { (graph : Items Triple) (vars : Items Known) (nodes : Items ℕ) → ShowsBy graph vars nodes result (λ n. value_kept vars n (out-Item kept.now)) }
     ensures held { (held_by result ≡ 0) × (room_of result ≡ 0) }
 {

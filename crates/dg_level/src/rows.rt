@@ -112,8 +112,8 @@ impl Rows {
         self.begun.is_empty()
     }
 
-    // How many bytes the row that is begun may have.
-    fn room(&self) -> usize
+    /// How many bytes the row that is begun may have.
+    pub fn room(&self) -> usize
         ensures { result + total self.now.rows ≡ self.now.limit }
     {
         self.limit - self.text.len()

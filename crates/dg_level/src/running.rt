@@ -207,8 +207,8 @@ fn answer_of_blocks<S: Snapshot, L: Ledger>(
 
 /// The answer of a query over a graph, as text: each block under its name in the order of the text, but those of the name
 /// `var`. A block shows an array: for each of its fields `count(uid)` an object with the number of its nodes, and then those
-/// of its nodes that show something, in their order; or flat objects where it is normalized. A block without a function shows
-/// an object for each of its aggregates whose variable has a value. It is for the queries that `is_built` tells: nothing recurs.
+/// of its nodes that show something, in their order; or flat objects where it is normalized; or what its nodes unfold to where it
+/// has a recursion. A block without a function shows an object for each of its aggregates whose variable has a value.
 ///
 /// First all variables are found, block by block in the order of the plan, and no text is made of them. Then block by block of
 /// the text the list is found: the root's nodes, those of them that pass each filter, their order, for which a value

@@ -101,8 +101,8 @@ fn push_nodes(
     rows.array_field(key, front.as_slice(), list, &below.level, &below.rows)
 }
 
-// Adds what a column shows at a node, which stands at this place of the level.
-fn push_column<S: Snapshot, L: Ledger>(
+/// Adds what a column shows at a node, which stands at this place of the level.
+pub fn push_column<S: Snapshot, L: Ledger>(
     alloc: Global,
     snap: &S,
     rows: &mut Rows,

@@ -21,8 +21,7 @@ use Rattle.dg_wire.specs.declared.request.Request.TheVariants as requests
 use Rattle.dg_node.specs.Graphs.{graph_at}
 use Rattle.dg_node.specs.Schemas.{schema_at}
 use Rattle.dg_node.specs.Machine.{Machine, Session, session_of}
-use Rattle.dg_level.specs.Forms.{is_built}
-use Rattle.dg_node.specs.Queries.{IsFound, QueriesBy, QueriesForm, QueriesAs, QueriesText, QueriesIn, Queries}
+use Rattle.dg_node.specs.Queries.{IsFound, QueriesBy, QueriesAs, QueriesText, QueriesIn, Queries}
 use Rattle.dg_node.specs.Steps.{Outcome, Step, Steps}
 
 -- ---- no pattern was refused
@@ -76,12 +75,11 @@ module _ (list more : List BadPattern) where
   )
 
   module _ (old : Machine) (sid : ℕ) (schema : List PredDef) (graph : List Triple) where
-    form_more : (query : Query) (built : Bool) (p : Reply) (new : Machine) → QueriesForm list old sid schema graph query built p new → QueriesForm (list ++ more) old sid schema graph query built p new
-    form_more query true p new q = record { fault = q.fault; found = found_more schema query q.fault q.found; outcome = q.outcome }
-    form_more query false p new q = q
+    read_more : (query : Query) (p : Reply) (new : Machine) → QueriesBy list old sid schema graph query p new → QueriesBy (list ++ more) old sid schema graph query p new
+    read_more query p new q = record { fault = q.fault; found = found_more schema query q.fault q.found; outcome = q.outcome }
 
     as_more : (read : Result Query DqlFault) (p : Reply) (new : Machine) → QueriesAs list old sid schema graph read p new → QueriesAs (list ++ more) old sid schema graph read p new
-    as_more (Ok query) p new q = form_more query (is_built query) p new q
+    as_more (Ok query) p new q = read_more query p new q
     as_more (Err (texts.BadToken offset)) p new q = q
     as_more (Err (texts.TooDeep offset)) p new q = q
     as_more (Err (texts.BadSyntax offset)) p new q = q

@@ -20,8 +20,7 @@ use Rattle.dg_zero.specs.States.{Zero}
 use Rattle.dg_txn.specs.Own.{Transaction, graph}
 use Rattle.dg_node.specs.Machine.{Machine, Session, session_of}
 use Rattle.dg_node.specs.Schemas.{schema_at}
-use Rattle.dg_level.specs.Forms.{is_built}
-use Rattle.dg_node.specs.Queries.{refusal_of_check, answer_or_fault, QueriesBy, QueriesForm, QueriesAs, QueriesText, QueriesIn, Queries}
+use Rattle.dg_node.specs.Queries.{refusal_of_check, answer_or_fault, QueriesBy, QueriesAs, QueriesText, QueriesIn, Queries}
 use Rattle.dg_node.specs.Sessions.{IsOpen, session_by, own_session, between, Sees}
 use Rattle.dg_node.specs.State.{machine_beside}
 use Rattle.dg_node.proofs.Between.{none_found, both_others}
@@ -70,12 +69,10 @@ module _ (list : List BadPattern) (sid : ℕ) (body : List ℕ) where
 -- ---- what is read of a text, and what the checks find
 
 module _ {E : Type 0} (list : List BadPattern) (m : Machine) (sid : ℕ) (schema : List PredDef) (g : List Triple) where
-  -- a query that is built
-  pub built_said : (r : Result Reply E) (query : Query) (read : Result Query DqlFault) → read ≡ Ok query → is_built query ≡ true
+  -- a query
+  pub query_said : (r : Result Reply E) (query : Query) (read : Result Query DqlFault) → read ≡ Ok query
       → IfOk r (λ p. QueriesBy list m sid schema g query p m) → IfOk r (λ p. QueriesAs list m sid schema g read p m)
-  built_said r query read e built by =
-      subst (λ (said : Result Query DqlFault). IfOk r (λ p. QueriesAs list m sid schema g said p m)) (sym e)
-      (subst (λ (v : Bool). IfOk r (λ p. QueriesForm list m sid schema g query v p m)) (sym built) by)
+  query_said r query read e by = subst (λ (said : Result Query DqlFault). IfOk r (λ p. QueriesAs list m sid schema g said p m)) (sym e) by
 
   -- in which the checks find nothing
   pub clean_answered : (r : Result Reply E) (query : Query) → fault_of schema query ≡ None → IfOk r (λ p. ◌≡◌ {A = Reply × Machine} (answer_or_fault m sid schema g query None) (p, m)) → IfOk r (λ p. QueriesBy list m sid schema g query p m)

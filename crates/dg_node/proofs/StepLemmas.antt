@@ -24,8 +24,7 @@ use Rattle.dg_node.specs.Schemas.{schema_at}
 use Rattle.dg_node.specs.Graphs.{graph_at}
 use Rattle.dg_node.specs.Machine.{Machine, Session, session_of, empty}
 use Rattle.dg_node.specs.Mutations.{mutated, MutatesBy, MutatesAs, MutatesText, MutatesIn}
-use Rattle.dg_node.specs.Queries.{IsFound, answer_or_fault, QueriesBy, QueriesForm, QueriesAs, QueriesText, QueriesIn}
-use Rattle.dg_level.specs.Forms.{is_built}
+use Rattle.dg_node.specs.Queries.{IsFound, answer_or_fault, QueriesBy, QueriesAs, QueriesText, QueriesIn}
 use Rattle.dg_node.specs.Steps.{Outcome, Step, Steps, HadMemory, IsDetermined}
 use Rattle.dg_node.proofs.Refusing.{none_found, fault_there}
 
@@ -70,12 +69,8 @@ module _ (old : Machine) (sid : ℕ) (schema : List PredDef) (graph : List Tripl
   answered_one query p q a b x y =
       sym x.outcome ∙ ap (answer_or_fault old sid schema graph query) (found_one schema query x.fault y.fault x.found y.found) ∙ y.outcome
 
-  form_one : (query : Query) (built : Bool) (p q : Reply) (a b : Machine) → QueriesForm [] old sid schema graph query built p a → QueriesForm [] old sid schema graph query built q b → Same p q a b
-  form_one query true p q a b x y = answered_one query p q a b x y
-  form_one query false p q a b x y = sym x ∙ y
-
   said_one : (read : Result Query DqlFault) (p q : Reply) (a b : Machine) → QueriesAs [] old sid schema graph read p a → QueriesAs [] old sid schema graph read q b → Same p q a b
-  said_one (Ok query) p q a b x y = form_one query (is_built query) p q a b x y
+  said_one (Ok query) p q a b x y = answered_one query p q a b x y
   said_one (Err (queries.BadToken offset)) p q a b x y = sym x ∙ y
   said_one (Err (queries.TooDeep offset)) p q a b x y = sym x ∙ y
   said_one (Err (queries.BadSyntax offset)) p q a b x y = sym x ∙ y

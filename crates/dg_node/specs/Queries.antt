@@ -1,4 +1,4 @@
--- What `query` does. Queries without `@recurse` are built.
+-- What `query` does.
 use Rattle.std.specs.Prelude.{◌≡◌, ℕ, nat_le, ◌==◌, if◌then◌else◌, Bool, true, false, Option, Some, None, List, length, Result, Ok, Err}
 use Rattle.std.specs.Str.Lossy.{utf8_valid_len}
 use Rattle.dg_schema.specs.declared.definition.PredDef.{PredDef}
@@ -13,7 +13,6 @@ use Rattle.dg_check.specs.declared.fault.CheckFault.TheVariants as faults
 use Rattle.dg_check.specs.declared.patterns.Refusal.{Refusal as BadPattern}
 use Rattle.dg_check.specs.Faults.{fault_of}
 use Rattle.dg_check.specs.Outcomes.{IsQueryOutcome}
-use Rattle.dg_level.specs.Forms.{is_built}
 use Rattle.dg_level.specs.Meaning.{overflow_of, answer_of}
 use Rattle.dg_wire.specs.declared.refusal.Refusal.{Refusal}
 use Rattle.dg_wire.specs.declared.refusal.Refusal.TheVariants as refusals
@@ -22,7 +21,7 @@ use Rattle.dg_wire.specs.declared.reply.Reply.TheVariants as replies
 use Rattle.dg_node.specs.Graphs.{graph_at}
 use Rattle.dg_node.specs.Schemas.{schema_at}
 use Rattle.dg_node.specs.Machine.{Machine, Session, session_of}
-use Rattle.dg_node.specs.Replying.{refused, IsUnbuilt}
+use Rattle.dg_node.specs.Replying.{refused}
 
 -- the most bytes that the text of an answer may have
 abbrev pub ANSWER_LIMIT : ℕ
@@ -58,20 +57,15 @@ abbrev pub IsFound : List PredDef → List BadPattern → Query → Option Check
 IsFound schema list query None = fault_of schema query ≡ None
 IsFound schema list query (Some fault) = IsQueryOutcome schema query list (Err fault)
 
--- a query that is built is checked under the schema, and answered over the graph
+-- a query is checked under the schema, and answered over the graph
 pub record QueriesBy (list : List BadPattern) (old : Machine) (sid : ℕ) (schema : List PredDef) (graph : List Triple) (query : Query) (reply : Reply) (new : Machine) : Type 0 where
   pub fault : Option CheckFault
   pub found : IsFound schema list query fault
   pub outcome : answer_or_fault old sid schema graph query fault ≡ (reply, new)
 
--- a query of another form isn't built
-abbrev pub QueriesForm : List BadPattern → Machine → ℕ → List PredDef → List Triple → Query → Bool → Reply → Machine → Type 0
-QueriesForm list old sid schema graph query true reply new = QueriesBy list old sid schema graph query reply new
-QueriesForm list old sid schema graph query false reply new = IsUnbuilt old reply new
-
 -- what is read of a text: a query, or the place of its fault
 abbrev pub QueriesAs : List BadPattern → Machine → ℕ → List PredDef → List Triple → Result Query DqlFault → Reply → Machine → Type 0
-QueriesAs list old sid schema graph (Ok query) reply new = QueriesForm list old sid schema graph query (is_built query) reply new
+QueriesAs list old sid schema graph (Ok query) reply new = QueriesBy list old sid schema graph query reply new
 QueriesAs list old sid schema graph (Err (texts.BadToken offset)) reply new = refused old (refusals.BadToken offset) ≡ (reply, new)
 QueriesAs list old sid schema graph (Err (texts.TooDeep offset)) reply new = refused old (refusals.TooDeep offset) ≡ (reply, new)
 QueriesAs list old sid schema graph (Err (texts.BadSyntax offset)) reply new = refused old (refusals.BadSyntax offset) ≡ (reply, new)

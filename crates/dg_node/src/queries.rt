@@ -12,11 +12,10 @@ ghost use Rattle.dg_node.specs.Sessions.{IsSession, Sees};
 ghost use Rattle.dg_zero.specs.Legal.{IsLegal};
 ghost use Rattle.dg_zero.specs.States.{Zero};
 
-use crate::step::unbuilt;
 use crate::transactions::no_session;
 use dg_check::{CheckFault, Patterns, Plan, check};
 use dg_graph::Snapshot;
-use dg_level::{RunFault, is_built, run_plan};
+use dg_level::{RunFault, run_plan};
 use dg_parse::{DqlFault, Query, parse};
 use dg_txn::Txn;
 use dg_values::{List, Mem, OutOfMemory, Steps};
@@ -29,8 +28,7 @@ use std::sync::ledger::{Blank, Ledger};
 /// Answers a query as a session sees the graph. Nothing changes, but that the maker's list of refused patterns may grow.
 ///
 /// `NoSession` comes where the session has no transaction; then `BadToken`, `TooDeep` and `BadSyntax` at a fault of the text;
-/// then `Unbuilt` where the query is of a form that isn't built (`is_built` of `dg_level`); then what the checks find; then
-/// `SumOverflow` at a sum that is no number of 64 bits; then `AnswerTooLarge`. The error is want of memory.
+/// then what the checks find; then `SumOverflow` at a sum that is no number of 64 bits; then `AnswerTooLarge`. The error is want of memory.
 pub fn query<P: Patterns>(
     alloc: Global,
     session: &Option<Txn>,
@@ -66,8 +64,7 @@ fn query_text<P: Patterns>(
     ensures grows { IsFrontOf (P.refused patterns.old) (P.refused patterns.new) }
 {
     match parse(alloc, text) {
-        Ok(query) if is_built(&query) => query_built(alloc, txn, sid, query, patterns),
-        Ok(_) => Ok(unbuilt()),
+        Ok(query) => query_read(alloc, txn, sid, query, patterns),
         Err(DqlFault::BadToken { offset }) => Ok(Reply::Refused(Refusal::BadToken {
             offset: u64::from(offset),
         })),
@@ -81,8 +78,8 @@ fn query_text<P: Patterns>(
     }
 }
 
-// Answers a query that is built, or says what is wrong with it.
-fn query_built<P: Patterns>(
+// Answers a query that was read, or says what is wrong with it.
+fn query_read<P: Patterns>(
     alloc: Global,
     txn: &Txn,
     sid: u32,
