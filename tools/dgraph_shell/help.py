@@ -2,7 +2,7 @@
 
 from __future__ import annotations
 
-from .meanings import BUILT_FORMS, DIRECTIVES, FORMS
+from .meanings import DIRECTIVES, FORMS, QUERIES
 from .scripts import INDENT
 from .verbs import BUILT, UNBUILT, Verb
 
@@ -82,7 +82,7 @@ def help_on(verb: Verb) -> list[str]:
         return [verb.usage, f"{INDENT}it is read, and answered 98: the program can't do it yet"]
     lines = [verb.usage, f"{INDENT}{PURPOSES[verb.name]}"]
     if verb.name in FORMS:
-        form = f"a {PARTS[verb.name]} is {FORMS[verb.name]}" if verb.name in PARTS else BUILT_FORMS[verb.name]
+        form = f"a {PARTS[verb.name]} is {FORMS[verb.name]}" if verb.name in PARTS else QUERIES
         lines.append(f"{INDENT}{form}")
         lines.append(f"{INDENT}as in")
         lines.extend(INDENT * 2 + line for line in EXAMPLES[verb.name])

@@ -141,11 +141,12 @@ STATEMENT = '`<0x1> <name> "Ann" .` (a value), `<0x1> <friend> <0x2> .` (a node)
 QUERY = "`{ q(func: uid(0x1)) { name } }`"
 # The body of each verb that is built and has one.
 FORMS = {"alter": DEFINITION, "mutate": STATEMENT, "query": QUERY}
+# What a query may have.
+QUERIES = (
+    "a query is as in `{ q(func: eq(name, \"Ann\"), first: 5) @filter(has(age)) { name friend { name } } }`: functions, filters, edges, "
+    "counts, orders, pages, variables, aggregates, @cascade, @normalize and @recurse"
+)
 # What is built where a request is answered 98.
-BUILT_FORMS = {
-    "query": "built are queries as in `{ q(func: eq(name, \"Ann\"), first: 5) @filter(has(age)) { name friend { name } } }`: functions, "
-    "filters, edges, counts, orders, pages, variables, aggregates, @cascade and @normalize; no @recurse",
-}
 BUILT_VERBS = f"built are {', '.join(verb.line for verb in BUILT)}"
 
 
@@ -210,8 +211,5 @@ def filled(text: str, refusal: Refusal, request: Optional[Request]) -> str:
 
 
 def form_for(refusal: Refusal, request: Request) -> str:
-    """The forms that are built, for a request that was refused."""
-    name = request.verb.name
-    if refusal.name == "Unbuilt":
-        return BUILT_FORMS.get(name, BUILT_VERBS)
-    return FORMS.get(name, QUERY)
+    """What is built, for a request that was refused."""
+    return BUILT_VERBS if refusal.name == "Unbuilt" else FORMS.get(request.verb.name, QUERY)

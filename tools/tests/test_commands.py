@@ -132,8 +132,8 @@ class Runs(InFolder):
 
     def test_a_refusal_says_what_to_do_next(self) -> None:
         program = self.program(b"error 98 Unbuilt\n", b"error 19 Conflict 5 data name 0x1\n")
-        done = self.run_over("query 1\n  {}\ncommit 2", program)
-        self.assertIn("    next: built are queries as in `{ q(func: eq(name, \"Ann\"), first: 5)", done.stdout)
+        done = self.run_over("line\ncommit 2", program)
+        self.assertIn("    next: built are alter, begin SID", done.stdout)
         self.assertIn("    next: try again from `begin 2` on", done.stdout)
 
     def test_an_input_that_would_end_the_program_is_not_sent(self) -> None:

@@ -151,8 +151,6 @@ class Refusals(unittest.TestCase):
         self.assertIn("`/\\(/`", what_next(refusal, asked))
 
     def test_forms_that_are_built_are_shown_where_one_isnt(self) -> None:
-        query = self.next("error 98 Unbuilt", request_of("query", "1", body=b"{}"))
-        self.assertIn('`{ q(func: eq(name, "Ann"), first: 5) @filter(has(age)) { name friend { name } } }`', query)
         built = "built are alter, begin SID, mutate SID, query SID, commit SID, discard SID"
         for request in (request_of("line"), request_of("upsert", "1", body=b""), request_of("roll", "a")):
             self.assertEqual(self.next("error 98 Unbuilt", request), built)
