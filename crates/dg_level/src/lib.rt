@@ -42,6 +42,6 @@ pub use fault::RunFault;
 pub use laws::any_order_serves;
 pub use levels::rows_of;
 pub use rows::Rows;
-pub use running::run_plan;
+pub use running::{run_plan, run_variables};
 pub use sorts::{Sort, sort_of};
 pub use variables::variables_in_order;

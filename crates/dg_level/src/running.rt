@@ -205,6 +205,35 @@ fn answer_of_blocks<S: Snapshot, L: Ledger>(
     Ok(out.into_string())
 }
 
+/// What the variables of a query stand for, where nothing of it is shown, as of the query of an upsert block. They are found block by
+/// block in the order of the plan.
+///
+/// # Errors
+///
+/// `SumOverflow` names the variable of the first sum of the text that is no number of 64 bits. `TooLarge` never comes. `OutOfMemory`
+/// is want of memory.
+pub fn run_variables<S: Snapshot, L: Ledger>(
+    alloc: Global,
+    snap: &S,
+    plan: &Plan,
+    reads: &mut Steps<L>,
+) -> Result<Vars, RunFault>
+    requires plan { IsPlanOf (S.declared snap.now) plan.now.query plan.now }
+    ensures known { IsLawful (S.declared snap.now) (S.graph snap.now) → IfOk result (λ vars. (overflow_of (S.declared snap.now) (S.graph snap.now) plan.now.query ≡ None) × (vars.variables ≡ variables_of (S.declared snap.now) (S.graph snap.now) plan.now.query)) }
+    ensures kinds { IsLawful (S.declared snap.now) (S.graph snap.now) → IfOk result (λ vars. AreOfKind (defined_in (S.declared snap.now) plan.now.query) vars.variables) }
+    ensures overflow { IsLawful (S.declared snap.now) (S.graph snap.now) → (x : List ℕ) → IsErrOf result (RunFault.SumOverflow x) → overflow_of (S.declared snap.now) (S.graph snap.now) plan.now.query ≡ Some x }
+    ensures fits { IsErrOf result RunFault.TooLarge → ⊥ }
+{
+    let vars = variables_of(alloc, snap, plan, reads)?;
+    test_sums(
+        alloc,
+        plan.query.blocks.as_slice(),
+        plan.parts.as_slice(),
+        &vars,
+    )?;
+    Ok(vars)
+}
+
 /// The answer of a query over a graph, as text: each block under its name in the order of the text, but those of the name
 /// `var`. A block shows an array: for each of its fields `count(uid)` an object with the number of its nodes, and then those
 /// of its nodes that show something, in their order; or flat objects where it is normalized; or what its nodes unfold to where it
@@ -232,9 +261,8 @@ pub fn run_plan<S: Snapshot, L: Ledger>(
     ensures overflow { IsLawful (S.declared snap.now) (S.graph snap.now) → (x : List ℕ) → IsErrOf result (RunFault.SumOverflow x) → overflow_of (S.declared snap.now) (S.graph snap.now) plan.now.query ≡ Some x }
     ensures too_large { IsLawful (S.declared snap.now) (S.graph snap.now) → IsErrOf result RunFault.TooLarge → (overflow_of (S.declared snap.now) (S.graph snap.now) plan.now.query ≡ None) × 16777216 < length (answer_text (answer_of (S.declared snap.now) (S.graph snap.now) plan.now.query)) }
 {
-    let vars = variables_of(alloc, snap, plan, reads)?;
+    let vars = run_variables(alloc, snap, plan, reads)?;
     let blocks = plan.query.blocks.as_slice();
     let kept = plan.parts.as_slice();
-    test_sums(alloc, blocks, kept, &vars)?;
     Ok(answer_of_blocks(alloc, snap, blocks, kept, &vars, reads)?)
 }
