@@ -1,0 +1,3 @@
+-- Lemmas on the statements for which those of an upsert block stand.
+pub mod ConditionLaws
+pub mod PlainLaws

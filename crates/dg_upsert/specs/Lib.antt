@@ -1,0 +1,4 @@
+-- What the mutations of an upsert block stand for.
+pub mod Conditions
+pub mod Meaning
+pub mod Laws
