@@ -4,9 +4,9 @@
     bench.py [--program PATH] [--quick] [--sizes N,N,N] [--only WORDS,..] [--repeat N] [--plain]
 
 It prints a table: for each workload and size how many seconds of a processor the program took, how many microseconds
-a request (`begin`, `mutate`, `query`, `commit` and `discard` are one each) and a unit, its peak memory, and the
+a request (`begin`, `mutate`, `query`, `upsert`, `commit` and `discard` are one each) and a unit, its peak memory, and the
 exponent by which the time grew since the size before (1 is as the size, 2 as its square). A size is a number of units:
-changes of a load, commits that are tried, reads. Behind it stands a table of questions, whose names begin with `query`:
+changes of a load, commits that are tried, reads, sign-ups, nodes that are marked. Behind it stands a table of questions, whose names begin with `query`:
 for each number of nodes how often a question was asked in one transaction, how many bytes an answer has, how many
 microseconds a query took, and the exponent by which that grew.
 
@@ -47,7 +47,8 @@ from pathlib import Path
 from typing import BinaryIO, NamedTuple, Optional
 
 from bench_questions import QUESTIONS, Question
-from bench_steps import INDEXED, LARGE, NAME, Step, Steps, Triple, Workload, name_of, names, queries, transactions
+from bench_steps import EMAIL, INDEXED, LARGE, MARK, NAME, Block, Step, Steps, Triple, Workload
+from bench_steps import mark_all, name_of, names, queries, sign_up, transactions, upserts
 
 PROGRAM = Path(__file__).resolve().parent.parent / "crates" / "dgraph" / "out" / "dgraph"
 SIZES = [10_000, 30_000, 100_000]
@@ -110,6 +111,12 @@ def contended(size: int) -> Steps:
         yield from (Step("commit", session) for session in sessions)
 
 
+def sign_ups(size: int) -> Iterator[Block]:
+    """Sign-ups by e-mails drawn from as many, so that some are taken already."""
+    draw = random.Random(size)
+    return (sign_up(f"u{draw.randrange(size)}@example.org") for _ in range(size))
+
+
 EACH = [1, 100, 10_000]
 
 
@@ -128,6 +135,13 @@ WORKLOADS = [
     Workload("hot key", NAME, lambda size: transactions(over(1, size), 1)),
     Workload("reads behind a long history", NAME, later_reads, lambda size: transactions(over(100, size), 1)),
     Workload("reads before a long history", NAME, older_reads, history_behind_a_start, is_older=True),
+    Workload("sign-ups, upserts of one node", EMAIL, lambda size: upserts(sign_ups(size)), index="exact"),
+    Workload(
+        "an upsert over all nodes",
+        MARK,
+        lambda _: upserts([mark_all()]),
+        lambda size: transactions(names(size), LARGE),
+    ),
     *(load(f"{index} index", *INDEXED[index], each, index) for index in INDEXED for each in EACH),
 ]
 
@@ -283,6 +297,7 @@ class Sqlite:
         if work.index in ("exact", "int", "reverse"):
             self.base.execute(INDEX)
         self.answered = 0
+        self.next_node = 1
         self.clock = 0
         self.starts: dict[int, int] = {}
         self.changes: dict[int, list[Triple]] = {}
@@ -303,6 +318,13 @@ class Sqlite:
         answer = step.asked.answer(self.base.execute(step.asked.statement, step.asked.bound))
         self.answered += len(answer)
         return answer
+
+    def upsert(self, step: Step) -> None:
+        assert step.block
+        found = [node for node, in self.base.execute(step.block.statement, step.block.bound)]
+        triples = step.block.sets(found, self.next_node)
+        self.next_node = max([self.next_node, *(triple.subject + 1 for triple in triples)])
+        self.changes[step.session] += triples
 
     def discard(self, step: Step) -> None:
         del self.starts[step.session], self.changes[step.session]

@@ -1,5 +1,5 @@
-"""What a script of the bench is made of: triples, questions and requests, with what SQLite is asked instead; what a
-workload is; and the data of workloads by their size."""
+"""What a script of the bench is made of: triples, questions, upsert blocks and requests, with what SQLite is asked
+instead; what a workload is; and the data of workloads by their size."""
 
 from __future__ import annotations
 
@@ -56,19 +56,32 @@ class Asked(NamedTuple):
         return f'{{"data":{{"q":[{nodes}]}}}}'
 
 
+class Block(NamedTuple):
+    """An upsert block: its text, SQLite's statement of what it finds, with what is bound in it, and what is set by the
+    nodes that were found, given the next new node."""
+
+    text: str
+    statement: str
+    bound: tuple[str, ...]
+    sets: Callable[[list[int], int], list[Triple]]
+
+
 class Step(NamedTuple):
-    """A request: a mutation's triples, or what a query asks."""
+    """A request: a mutation's triples, what a query asks, or an upsert block."""
 
     verb: str
     session: int
     triples: tuple[Triple, ...] = ()
     asked: Optional[Asked] = None
+    block: Optional[Block] = None
 
     def frame(self) -> bytes:
         if self.verb == "mutate":
             body = "\n".join(triple.text() for triple in self.triples)
         elif self.asked:
             body = self.asked.text()
+        elif self.block:
+            body = self.block.text
         else:
             return f"{self.verb} {self.session}\n".encode()
         return f"{self.verb} {self.session} {len(body)}\n{body}\n".encode()
@@ -113,6 +126,35 @@ def queries(questions: Iterable[Asked]) -> Steps:
     yield Step("discard", 1)
 
 
+def sign_up(email: str) -> Block:
+    """A new node for an e-mail, unless a node has it."""
+    query = f'query {{ q(func: eq(email, "{email}")) {{ v as uid }} }}'
+    return Block(
+        f'upsert {{ {query} mutation @if(eq(len(v), 0)) {{ set {{ uid(v) <email> "{email}" . }} }} }}',
+        "select s from triple where p = ? and o = ?",
+        ("email", email),
+        lambda found, node: [] if found else [Triple(node, "email", email)],
+    )
+
+
+def mark_all() -> Block:
+    """A mark for each node that has a name."""
+    return Block(
+        'upsert { query { v as var(func: has(name)) { uid } } mutation { set { uid(v) <mark> "seen" . } } }',
+        "select s from triple where p = ?",
+        ("name",),
+        lambda found, _: [Triple(node, "mark", "seen") for node in found],
+    )
+
+
+def upserts(blocks: Iterable[Block]) -> Steps:
+    """The upsert blocks, each in a transaction of its own."""
+    for block in blocks:
+        yield Step("begin", 1)
+        yield Step("upsert", 1, block=block)
+        yield Step("commit", 1)
+
+
 def name_of(node: int) -> Asked:
     """The name of a node."""
     return Asked(f"uid({hex(node)})", "select o from triple where p = ? and s = ?", ("name", node), field="name")
@@ -154,6 +196,8 @@ def ranks(size: int) -> Iterator[Triple]:
 
 
 NAME = "name: string .\n"
+MARK = "name: string .\nmark: string .\n"
+EMAIL = "email: string @index(exact) @upsert .\n"
 RANK = "rank: int @index(int) .\n"
 INDEXED = {
     "exact": ("name: string @index(exact) .\n", names),

@@ -7,8 +7,8 @@ What is wrong with a query stands in `plain_checks.py`, what variables stand for
 from __future__ import annotations
 
 import operator
-from collections.abc import Iterable, Iterator
-from typing import Optional, Union
+from collections.abc import Callable, Iterable, Iterator
+from typing import Optional, TypeVar, Union
 
 from plain_checks import Schema, check, kind_asked, kinds_of, places_of
 from plain_graph import Graph, terms
@@ -20,6 +20,7 @@ from plain_tokens import Refusal
 from plain_values import INT, NODE, TEXT, Posting, json_text, read_posting
 from plain_variables import Variable, aggregate_objects, find_variables, refuse_overflow
 
+Said = TypeVar("Said")
 HOLDS = {name: getattr(operator, name) for name in COMPARISONS}
 REFUSALS = {"T": (3, "BadToken"), "D": (5, "TooDeep"), "S": (4, "BadSyntax")}
 
@@ -163,10 +164,10 @@ class View:
         return f'{{"data":{{{",".join(self.block(block) for block in blocks if block.name != "var")}}}}}'
 
 
-def blocks_of(text: str) -> list[Block]:
-    """The blocks of a query; else a refusal."""
+def refused_as(read: Callable[[], Said]) -> Said:
+    """What is read; else a refusal."""
     try:
-        return read_query(text)
+        return read()
     except Fault as fault:
         raise Refusal(*REFUSALS[fault.letter], fault.offset) from None
 
@@ -180,7 +181,7 @@ def view_of(graph: Graph, schema: Schema, blocks: list[Block]) -> View:
 
 def answer_of(graph: Graph, schema: Schema, text: str) -> str:
     """The answer to a query over a graph under a schema; else a refusal."""
-    blocks = blocks_of(text)
+    blocks = refused_as(lambda: read_query(text))
     check(schema, blocks)
     view = view_of(graph, schema, blocks)
     refuse_overflow(view, blocks)

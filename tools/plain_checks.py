@@ -165,11 +165,11 @@ def kinds_of(schema: Schema, places: Iterable[Asked]) -> dict[str, Optional[str]
     return {name: sort_of(schema, item).kind for name, item in reversed(defined_in(places))}
 
 
-def unknown_variable(schema: Schema, places: list[Asked]) -> Optional[Refusal]:
-    """The refusal of the first variable that nothing of the sort needed defines."""
+def unknown_variable(schema: Schema, places: list[Asked], behind: Iterable[Use]) -> Optional[Refusal]:
+    """The refusal of the first variable that nothing of the sort needed defines, in a query or behind it."""
     defined = {(name, needs) for name, item in defined_in(places) for needs in (False, sort_of(schema, item).has_values)}
     uses = (use for place in places for use in uses_at(place))
-    return next((Refusal(6, "UnknownVariable", use.name) for use in uses if use not in defined), None)
+    return next((Refusal(6, "UnknownVariable", use.name) for use in (*uses, *behind) if use not in defined), None)
 
 
 def variable_twice(places: list[Asked]) -> Optional[Refusal]:
@@ -330,11 +330,11 @@ def bad_depth(options: Options) -> Optional[Refusal]:
 # ---------------------------------------------------------------------------------------------------
 
 
-def faults(schema: Schema, blocks: list[Block]) -> Iterator[Optional[Refusal]]:
+def faults(schema: Schema, blocks: list[Block], behind: Iterable[Use]) -> Iterator[Optional[Refusal]]:
     """What each check finds at each place, in the order of the checks and of the text; a check needs what those before it found
     to be sound."""
     places = [place for block in blocks for place in places_of(block)]
-    yield unknown_variable(schema, places)
+    yield unknown_variable(schema, places, behind)
     yield variable_twice(places)
     yield variable_cycle(blocks)
     kinds = kinds_of(schema, places)
@@ -344,8 +344,8 @@ def faults(schema: Schema, blocks: list[Block]) -> Iterator[Optional[Refusal]]:
     yield from (bad_depth(place.options) for place in places if place.options is not None)
 
 
-def check(schema: Schema, blocks: list[Block]) -> None:
-    """Refuses the first fault of the text."""
-    refusal = next((fault for fault in faults(schema, blocks) if fault is not None), None)
+def check(schema: Schema, blocks: list[Block], behind: Iterable[Use] = ()) -> None:
+    """Refuses the first fault of the text, of which the mutations of an upsert block use variables behind the query."""
+    refusal = next((fault for fault in faults(schema, blocks, behind) if fault is not None), None)
     if refusal is not None:
         raise refusal

@@ -8,24 +8,26 @@ look at the graph begins with the first commit. It was written from the meaning 
 from the program, so that the two can be compared (`random_scripts.py`): proofs say that the program
 does what the definitions in `specs/` say, and this asks whether those say what they should.
 
-The verbs that aren't built answer 98, and so do queries with `@recurse` as long as the program doesn't
-answer them (`plain_answers.py` says whether it does). It ends with 4 where the script isn't frames to its
+The verbs that aren't built answer 98. It ends with 4 where the script isn't frames to its
 end, as the program does. It needs Python 3.9 or later. Tokens stand in `plain_tokens.py`, values in
 `plain_values.py`, graphs and the keys of conflicts in `plain_graph.py`, the query language in
-`plain_queries.py`, and what it answers in `plain_answers.py`.
+`plain_queries.py`, and what it answers in `plain_answers.py`; mutations in `plain_mutations.py`, and upsert blocks in
+`plain_upserts.py`.
 """
 
 from __future__ import annotations
 
 import re
 import sys
-from collections.abc import Iterable, Iterator
+from collections.abc import Iterable
 from dataclasses import dataclass, field
 from typing import NamedTuple, Optional, Union
 
 from plain_answers import answer_of
 from plain_graph import TOKENIZERS, Change, ConflictKey, Definition, Graph, apply, conflict_keys
-from plain_tokens import NAME, UID, Reader, Refusal, Token, is_whole, lex, text_of
+from plain_mutations import MutationReader, Node, Statement
+from plain_tokens import NAME, Reader, Refusal, Token, is_whole, lex, text_of
+from plain_upserts import statements_of
 from plain_values import KINDS, NODE, Posting, read_posting
 
 LAST_UID = 2**62 - 1
@@ -123,127 +125,6 @@ class SchemaReader(Reader):
 
 
 # ---------------------------------------------------------------------------------------------------
-# The language of mutations
-# ---------------------------------------------------------------------------------------------------
-
-TYPES = {
-    prefix + word: kind
-    for prefix in ("xs:", "http://www.w3.org/2001/XMLSchema#")
-    for word, kind in {
-        "string": "string",
-        "int": "int",
-        "integer": "int",
-        "boolean": "bool",
-        "dateTime": "dateTime",
-        "date": "dateTime",
-    }.items()
-}
-
-
-class Node(NamedTuple):
-    """A node by its number, or a new one by its name."""
-
-    uid: int
-    name: str = ""
-
-
-class Literal(NamedTuple):
-    text: str
-    kind: Optional[str]
-
-
-class Statement(NamedTuple):
-    """A triple that is set or deleted; None as the object stands for each that there is."""
-
-    deletes: bool
-    subject: Node
-    predicate: str
-    object: Union[Node, Literal, None]
-
-
-class MutationReader(Reader):
-    """Reads the body of a mutation."""
-
-    def __init__(self, text: str) -> None:
-        tokens, stop = lex(text)
-        if stop is not None:
-            raise Refusal(3, "BadToken", stop)
-        super().__init__(tokens, Token("end", "", len(text.encode())))
-
-    def refuse(self, token: Token) -> Refusal:
-        return Refusal(4, "BadSyntax", token.offset)
-
-    def variable(self) -> Refusal:
-        """The fault at `uid` or `val`, whose bracket makes it a variable of an upsert block."""
-        word = self.take()
-        return self.refuse(word if self.next().kind == "(" else self.next())
-
-    def node(self, deletes: bool) -> Node:
-        token = self.next()
-        if token.kind == "name" and token.says == "uid":
-            raise self.variable()
-        if token.kind == "iri" and UID.fullmatch(token.says) and int(token.says, 16):
-            return Node(int(self.take().says, 16))
-        if token.kind == "blank" and not deletes:
-            return Node(0, self.take().says)
-        raise self.refuse(token)
-
-    def predicate(self) -> str:
-        token = self.next()
-        if token.kind not in ("name", "iri") or not is_whole(NAME, token.says):
-            raise self.refuse(token)
-        return self.take().says
-
-    def literal(self) -> Literal:
-        text, kind = self.take().says, None
-        if self.next().kind == "caret":
-            self.take()
-            if self.next().kind != "iri" or self.next().says not in TYPES:
-                raise self.refuse(self.next())
-            kind = TYPES[self.take().says]
-        return Literal(text, kind)
-
-    def object(self, deletes: bool) -> Union[Node, Literal, None]:
-        token = self.next()
-        if token.kind == "name" and token.says == "val":
-            raise self.variable()
-        if token.kind == "*" and deletes:
-            self.take()
-            return None
-        return self.literal() if token.kind == "quoted" else self.node(deletes)
-
-    def statement(self, deletes: bool) -> Statement:
-        read = Statement(deletes, self.node(deletes), self.predicate(), self.object(deletes))
-        if self.next().kind in ("iri", "blank", "quoted"):
-            self.take()
-        self.want(".")
-        return read
-
-    def group(self) -> Iterator[Statement]:
-        word = self.next()
-        if word.kind != "name" or word.says not in ("set", "delete"):
-            raise self.refuse(word)
-        self.take()
-        self.want("{")
-        while self.next().kind != "}":
-            yield self.statement(word.says == "delete")
-        self.take()
-
-    def read(self) -> list[Statement]:
-        read: list[Statement] = []
-        if self.next().kind != "{":
-            while self.next().kind != "end":
-                read.append(self.statement(False))
-            return read
-        self.take()
-        while self.next().kind != "}":
-            read.extend(self.group())
-        self.take()
-        self.want("end")
-        return read
-
-
-# ---------------------------------------------------------------------------------------------------
 # The machine
 # ---------------------------------------------------------------------------------------------------
 
@@ -282,7 +163,7 @@ class PlainMachine:
                 return self.alter(body)
             if verb == "begin":
                 return self.begin(session)
-            if verb not in ("mutate", "query", "commit", "discard"):
+            if verb not in ("mutate", "upsert", "query", "commit", "discard"):
                 raise Refusal(98, "Unbuilt")
             if session not in self.sessions:
                 raise Refusal(1, "NoSession", session)
@@ -376,8 +257,15 @@ class PlainMachine:
         return first + len(names), {name: first + place for place, name in enumerate(names)}
 
     def mutate(self, number: int, body: bytes) -> bytes:
+        return self.changed("mutate", number, MutationReader(text_of(body)).read())
+
+    def upsert(self, number: int, body: bytes) -> bytes:
         session = self.sessions[number]
-        statements = MutationReader(text_of(body)).read()
+        return self.changed("upsert", number, [*statements_of(self.view(session), session.schema, text_of(body))])
+
+    def changed(self, verb: str, number: int, statements: list[Statement]) -> bytes:
+        """The reply to a request that comes to these statements, in which nothing is a variable."""
+        session = self.sessions[number]
         objects = [self.resolved(session.schema, statement) for statement in statements]
         nodes = [
             node
@@ -400,7 +288,7 @@ class PlainMachine:
             session.changes += [Change(statement.deletes, subject, place[0], one, definition) for one in each]
         self.uid = next_uid
         uids = ",".join(f'"{name}":"{hex(uid)}"' for name, uid in sorted(numbers.items()))
-        return with_body("mutate", number, f'{{"uids":{{{uids}}}}}')
+        return with_body(verb, number, f'{{"uids":{{{uids}}}}}')
 
     def query(self, number: int, body: bytes) -> bytes:
         session = self.sessions[number]

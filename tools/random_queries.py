@@ -281,6 +281,12 @@ class Queries(random.Random):
 
     def blocks_with_variables(self) -> list[str]:
         """Blocks that build on each other, in any order of the text."""
+        blocks = self.known_blocks()
+        self.known = Known([], "")
+        return blocks
+
+    def known_blocks(self) -> list[str]:
+        """The same, and their variables are known behind them too."""
         fault = self.choice(FAULTS) if self.one_in(ONE_FAULT_IN) else ""
         self.known = Known(self.sample(NAMES, len(NAMES)), fault)
         blocks = []
@@ -293,7 +299,6 @@ class Queries(random.Random):
         blocks += self.circle() if fault == "cycle" else []
         if self.one_in(2):
             self.shuffle(blocks)
-        self.known = Known([], "")
         return blocks
 
     def circle(self) -> list[str]:

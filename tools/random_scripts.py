@@ -9,7 +9,7 @@ where the program does otherwise than `plain_machine.py`; it shows the request a
 writes one of them. Most requests are sound; some statements have a fault, and some bodies and scripts
 a byte more, less or in the place of another. Predicates have directives, which change over data, and
 queries (`random_queries.py`) ask by every function, filter and form, also over own changes, and build on
-each other by variables. In a third of the scripts many sessions write at once: a few nodes, lists whose
+each other by variables, as upsert blocks do (`random_upserts.py`). In a third of the scripts many sessions write at once: a few nodes, lists whose
 values share tokens, or a node each and the same values or edges. So many commits meet a conflict: of a
 hundred scripts or more, one reply in fifty has to be one, and one in two thousand by each kind of key, or
 `compare` ends with 1. Where no first number is given it follows from the day, so that no two days have the
@@ -29,7 +29,7 @@ from pathlib import Path
 from typing import NamedTuple
 
 import plain_machine as plain
-from random_queries import Queries
+from random_upserts import Upserts
 from random_words import EDGES, INDEXED, LISTS, NO_VALUES, NODES, PREDICATES, TEXTS, TYPED, VALUES
 
 # How many seconds the program may take for a script.
@@ -59,7 +59,7 @@ TOKENIZERS = {kind: [name for name, of in plain.TOKENIZERS.items() if of == kind
 BYTES = "{}()[],:.~*\"'<>@/^#\\ \n_a0!-é"
 
 
-class Draw(Queries):
+class Draw(Upserts):
     """Random parts of requests."""
 
     def node(self, deletes: bool) -> str:
@@ -227,7 +227,10 @@ def contended(draw: Draw) -> Iterator[bytes]:
         draw.shuffle(sessions)
         yield from (b"begin %d\n" % session for session in sessions)
         for session in sessions:
-            yield frame(f"mutate {session}", draw.changes(predicates, nodes[session]).encode())
+            if draw.one_in(4):
+                yield frame(f"upsert {session}", draw.sound_upsert(predicates, nodes[session]).encode())
+            else:
+                yield frame(f"mutate {session}", draw.changes(predicates, nodes[session]).encode())
         draw.shuffle(sessions)
         for session in sessions:
             if draw.one_in(3):
@@ -243,7 +246,7 @@ def frames(draw: Draw) -> Iterator[bytes]:
     begun: set[int] = set()
     for _ in range(draw.choice([20, 60, 120])):
         session = draw.choice(sessions)
-        verbs, weights = ["begin", "alter", "mutate", "query", "commit", "discard"], [1, 2, 14, 12, 4, 1]
+        verbs, weights = ["begin", "alter", "mutate", "query", "upsert", "commit", "discard"], [1, 2, 12, 11, 6, 4, 1]
         verb = draw.choices(verbs, weights)[0]
         if session not in begun and not draw.one_in(12) and verb != "alter":
             verb = "begin"
@@ -254,6 +257,13 @@ def frames(draw: Draw) -> Iterator[bytes]:
             yield frame(f"query {session}", draw.sums().encode())
         elif verb == "query":
             yield frame(f"query {session}", draw.marred(draw.query()))
+        elif verb == "upsert" and draw.one_in(30):
+            yield frame(f"mutate {session}", draw.great_numbers().encode())
+            yield frame(f"upsert {session}", draw.upsert_of_sums().encode())
+        elif verb == "upsert":
+            if draw.one_in(2):
+                yield frame(f"mutate {session}", draw.changes(PREDICATES, NODES).encode())
+            yield frame(f"upsert {session}", draw.marred(draw.upsert()))
         elif verb == "alter":
             if draw.one_in(2):
                 yield from (b"commit %d\n" % one for one in sorted(begun))

@@ -3,9 +3,9 @@
 
     rows_queries.py <crates/table_queries/stdin >crates/table_queries/stdout
 
-Tokens are read by plain_tokens.py, and queries, their depth and the cases beside the grammar by plain_queries.py;
-upsert blocks and their statements are read here. What is read of a query or an upsert block is its printed form: its
-words, with a blank behind each. No line of it was taken from the crates or from what they print. It needs Python 3.9
+Tokens are read by plain_tokens.py, queries, their depth and the cases beside the grammar by plain_queries.py, upsert blocks by
+plain_upserts.py, and their statements by plain_mutations.py. What is read of a query or an upsert block is its printed form:
+its words, with a blank behind each. No line of it was taken from the crates or from what they print. It needs Python 3.9
 or later.
 """
 
@@ -13,11 +13,10 @@ from __future__ import annotations
 
 import sys
 from collections.abc import Callable, Iterator
-from typing import Any, NamedTuple, Optional, Union
+from typing import Any, Optional, Union
 
-import plain_machine as plain
+from plain_mutations import Literal, Node, NodesOf, Object, Statement, ValueOf
 from plain_queries import (
-    COMPARISONS,
     Aggregate,
     Argument,
     Block,
@@ -30,11 +29,11 @@ from plain_queries import (
     Followed,
     Function,
     Part,
-    QueryReader,
     Uid,
     Val,
-    key_of,
+    read_query,
 )
+from plain_upserts import Length, Mutation, Upsert, read_upsert
 from rows_text import TYPES, of_field, shown
 
 MOST = 1_048_576
@@ -167,107 +166,48 @@ def blocks_words(blocks: list[Block]) -> str:
 # ---------------------------------------------------------------------------------------------------
 
 
-class Condition(NamedTuple):
-    """A comparison of the number of a variable's nodes."""
-
-    word: str
-    name: str
-    number: int
+def length_words(length: Length) -> str:
+    return words(length.word) + in_round(words("len") + in_round(words(length.name)) + words(",", str(length.number)))
 
 
-def condition_words(condition: Condition) -> str:
-    return words(condition.word) + in_round(
-        words("len") + in_round(words(condition.name)) + words(",", str(condition.number))
-    )
+def node_words(node: Union[Node, NodesOf]) -> str:
+    if isinstance(node, NodesOf):
+        return words("uid") + in_round(words(node.name))
+    return words(f"_:{node.name}" if node.name else f"<{hex(node.uid)}>")
 
 
-class UpsertReader(QueryReader):
-    """Reads an upsert block, and prints what it reads of mutations."""
+def object_words(said: Object) -> str:
+    if said is None:
+        return words("*")
+    if isinstance(said, ValueOf):
+        return val_words(said.name)
+    if isinstance(said, Literal):
+        return quoted(said.text) + (words("^^", f"<xs:{TYPES[said.kind]}>") if said.kind else "")
+    return node_words(said)
 
-    def length(self) -> Condition:
-        word = self.word(*COMPARISONS)
-        self.want("(")
-        self.word("len")
-        name = self.bracketed(self.name)
-        self.want(",")
-        number = self.number()
-        self.want(")")
-        return Condition(word, name, number)
 
-    # ---- mutations
+def statement_words(statement: Statement) -> str:
+    """A statement in a group of its own."""
+    deletes, subject, predicate, said = statement
+    inner = node_words(subject) + words(f"<{predicate}>") + object_words(said) + words(".")
+    return words("delete" if deletes else "set") + in_curly(inner)
 
-    def subject(self, deletes: bool) -> str:
-        token = self.next()
-        if token.kind == "name" and token.says == "uid":
-            self.take()
-            return words("uid") + in_round(words(self.bracketed(self.name)))
-        if token.kind == "iri" and plain.UID.fullmatch(token.says) and int(token.says, 16):
-            return words(f"<{hex(int(self.take().says, 16))}>")
-        if token.kind == "blank" and not deletes:
-            return words(f"_:{self.take().says}")
-        raise self.refuse(token)
 
-    def object(self, deletes: bool) -> str:
-        token = self.next()
-        if token.kind == "name" and token.says == "val":
-            return val_words(self.val().name)
-        if token.kind == "*" and deletes:
-            return words(self.take().kind)
-        if token.kind != "quoted":
-            return self.subject(deletes)
-        said = quoted(self.take().says)
-        if self.next().kind != "caret":
-            return said
-        self.take()
-        if self.next().kind != "iri" or self.next().says not in plain.TYPES:
-            raise self.refuse(self.next())
-        return said + words("^^", f"<xs:{TYPES[plain.TYPES[self.take().says]]}>")
+def mutation_words(mutation: Mutation) -> str:
+    said = words("mutation")
+    if mutation.condition is not None:
+        said += words("@if") + in_round(filter_words(mutation.condition, "(", length_words))
+    return said + in_curly("".join(statement_words(statement) for statement in mutation.statements))
 
-    def statement(self, deletes: bool) -> str:
-        """A statement in a group of its own."""
-        subject = self.subject(deletes)
-        token = self.next()
-        if token.kind not in ("name", "iri") or not plain.is_whole(plain.NAME, token.says):
-            raise self.refuse(token)
-        said = subject + words(f"<{self.take().says}>") + self.object(deletes) + words(".")
-        if self.next().kind in ("iri", "blank", "quoted"):
-            self.take()
-        self.want(".")
-        return words("delete" if deletes else "set") + in_curly(said)
 
-    def mutation(self) -> str:
-        self.word("mutation")
-        said = words("mutation")
-        if self.next().kind == "at" and self.next().says == "if":
-            self.take()
-            condition = self.bracketed(lambda: self.any_of(self.length, "or"))
-            said += words("@if") + in_round(filter_words(condition, "(", condition_words))
-        groups = ""
-        self.want("{")
-        while self.is_word("set", "delete"):
-            deletes = self.take().says == "delete"
-            self.want("{")
-            while self.next().kind in ("iri", "blank") or self.is_word("uid"):
-                groups += self.statement(deletes)
-            self.want("}")
-        self.want("}")
-        return said + in_curly(groups)
-
-    def upsert(self) -> str:
-        self.word("upsert")
-        self.want("{")
-        self.word("query")
-        said = words("query") + blocks_words(self.blocks()) + self.mutation()
-        while self.is_word("mutation"):
-            said += self.mutation()
-        self.want("}")
-        return words("upsert") + in_curly(said)
+def upsert_words(upsert: Upsert) -> str:
+    mutations = "".join(mutation_words(mutation) for mutation in upsert.mutations)
+    return words("upsert") + in_curly(words("query") + blocks_words(upsert.blocks) + mutations)
 
 
 def read(text: str, upsert: bool) -> str:
     """What a text says; a fault at the first token that a case or the grammar refuses."""
-    reader = UpsertReader(text)
-    return reader.whole(reader.upsert) if upsert else blocks_words(reader.whole(reader.query))
+    return upsert_words(read_upsert(text)) if upsert else blocks_words(read_query(text))
 
 
 # ---------------------------------------------------------------------------------------------------

@@ -17,6 +17,7 @@ from collections.abc import Callable, Iterator
 from typing import NamedTuple, Optional, Union
 
 import plain_machine as plain
+import plain_mutations
 import plain_tokens
 
 LONGEST_ANSWER = 16_777_216
@@ -331,15 +332,15 @@ class Held:
 # ---------------------------------------------------------------------------------------------------
 
 
-def node(said: plain.Node) -> str:
+def node(said: plain_mutations.Node) -> str:
     return f"_:{said.name}" if said.name else hex(said.uid)
 
 
-def statement(said: plain.Statement) -> str:
+def statement(said: plain_mutations.Statement) -> str:
     verb = "delete" if said.deletes else "set"
     if said.object is None:
         target = "*"
-    elif isinstance(said.object, plain.Node):
+    elif isinstance(said.object, plain_mutations.Node):
         target = node(said.object)
     else:
         tag = f"^^{KINDS[said.object.kind]}" if said.object.kind else ""
@@ -354,19 +355,19 @@ def no_mutation(refusal: plain.Refusal) -> str:
 
 def row_mutation(text: str) -> str:
     try:
-        return shown(listed([statement(said) for said in plain.MutationReader(text).read()], " "))
+        return shown(listed([statement(said) for said in plain_mutations.MutationReader(text).read()], " "))
     except plain.Refusal as refusal:
         return no_mutation(refusal)
 
 
-def written_node(said: plain.Node) -> str:
+def written_node(said: plain_mutations.Node) -> str:
     return f"_:{said.name}" if said.name else f"<{hex(said.uid)}>"
 
 
-def written_object(said: Union[plain.Node, plain.Literal, None]) -> str:
+def written_object(said: Union[plain_mutations.Node, plain_mutations.Literal, None]) -> str:
     if said is None:
         return "*"
-    if isinstance(said, plain.Node):
+    if isinstance(said, plain_mutations.Node):
         return written_node(said)
     tag = f" ^^ <xs:{TYPES[said.kind]}>" if said.kind else ""
     return f'"{said.text.translate(ESCAPES)}"{tag}'
@@ -376,7 +377,7 @@ def printed_text(text: str) -> str:
     """The printed text of what a text says: a group for each statement, and a blank behind each word."""
     groups = [
         f"{'delete' if said.deletes else 'set'} {{ {written_node(said.subject)} <{said.predicate}> {written_object(said.object)} . }} "
-        for said in plain.MutationReader(text).read()
+        for said in plain_mutations.MutationReader(text).read()
     ]
     return f"{{ {''.join(groups)}}} "
 
@@ -402,7 +403,7 @@ def row_repeat(fields: str) -> str:
 
 def front(text: bytes) -> str:
     try:
-        plain.MutationReader(text.decode()).read()
+        plain_mutations.MutationReader(text.decode()).read()
     except UnicodeDecodeError:
         return "-"
     except plain.Refusal as refusal:

@@ -2,7 +2,7 @@
 
 from __future__ import annotations
 
-from .meanings import DIRECTIVES, FORMS, QUERIES
+from .meanings import DIRECTIVES, FORMS, QUERIES, UPSERTS
 from .scripts import INDENT
 from .verbs import BUILT, UNBUILT, Verb
 
@@ -34,6 +34,7 @@ PURPOSES = {
     "begin": "opens a transaction in the session SID",
     "mutate": "sets and deletes triples, with a body of statements",
     "query": "asks by functions and filters, with a body of blocks",
+    "upsert": "queries, and sets and deletes by what was found, with an upsert block as its body",
     "commit": "makes the transaction's changes seen, and ends it",
     "discard": "forgets them, and ends it",
 }
@@ -54,9 +55,22 @@ EXAMPLES = {
         '    some(func: anyofterms(name, "ann bob")) @filter(has(~friend) and not lt(age, 18)) { uid n: name }',
         "}",
     ],
+    "upsert": [
+        "upsert {",
+        '    query { v as q(func: eq(name, "Cid")) { uid } var(func: has(age)) { x as age } }',
+        "    mutation @if(eq(len(v), 0)) {",
+        '        set { uid(v) <name> "Cid" . <0x1> <friend> uid(v) . }',
+        "    }",
+        "    mutation @if(not lt(len(v), 1) and gt(len(x), 0)) {",
+        "        set { uid(x) <friend> uid(v) . }",
+        "        delete { uid(v) <age> val(x) . }",
+        "    }",
+        "}",
+    ],
 }
-# What the body of a verb consists of.
+# What the body of a verb consists of, or what it may have.
 PARTS = {"alter": "definition", "mutate": "statement"}
+WHOLES = {"query": QUERIES, "upsert": UPSERTS}
 MORE = {
     "alter": [DIRECTIVES],
     "mutate": ["deletes stand in a group:", INDENT + '{ set { <0x1> <name> "Anna" . } delete { <0x1> <friend> * . } }'],
@@ -65,6 +79,13 @@ MORE = {
         "all but uid and has need an index at a block's head, count(..) needs @count, and ~ needs @reverse;",
         "an edge has braces of its own: `friend { name friend { name } }`, with arguments and @filter before them;",
         "@cascade drops nodes that lack a field, also below; @normalize makes flat objects of the fields with an alias",
+    ],
+    "upsert": [
+        "a condition has eq, le, lt, ge, gt of `len(v)`, the number of v's nodes, and a number, with and, or, not and brackets;",
+        "it is looked at before anything is changed, and without one the mutation is always taken;",
+        "in a delete, a statement of a variable without a node stands for none, and so does one of `val(x)` without a value;",
+        "the new node of a variable v is named `uid(v)` in the reply, and is one in the whole request;",
+        "the predicate needs an index and @upsert, for two sessions that find no node of a value not to make one each",
     ],
 }
 
@@ -82,7 +103,7 @@ def help_on(verb: Verb) -> list[str]:
         return [verb.usage, f"{INDENT}it is read, and answered 98: the program can't do it yet"]
     lines = [verb.usage, f"{INDENT}{PURPOSES[verb.name]}"]
     if verb.name in FORMS:
-        form = f"a {PARTS[verb.name]} is {FORMS[verb.name]}" if verb.name in PARTS else QUERIES
+        form = f"a {PARTS[verb.name]} is {FORMS[verb.name]}" if verb.name in PARTS else WHOLES[verb.name]
         lines.append(f"{INDENT}{form}")
         lines.append(f"{INDENT}as in")
         lines.extend(INDENT * 2 + line for line in EXAMPLES[verb.name])

@@ -122,6 +122,11 @@ NO_LITERAL = Meaning(
     "compare an int with 3, a bool with true, a dateTime with \"1993-05-19\", a count with a number; in a pattern `\\` "
     "stands before a sign that means itself, as in `/\\(/`",
 )
+NO_VALUE = Meaning(
+    "a literal that {0} is compared with is none of its kind, or a value that is set or deleted doesn't read as what {0} takes",
+    "write an int as 3, a bool as true, a dateTime as \"1993-05-19\", and in a statement all of them between quotes; `val(x)` has to read "
+    "as what its predicate takes",
+)
 # What a key is, behind its text, where it is of no object that was set or deleted.
 KEYS = {
     "index": "a token of values of both",
@@ -139,12 +144,18 @@ DIRECTIVES = (
 )
 STATEMENT = '`<0x1> <name> "Ann" .` (a value), `<0x1> <friend> <0x2> .` (a node) or `_:ann <name> "Ann" .` (a new node)'
 QUERY = "`{ q(func: uid(0x1)) { name } }`"
+UPSERT = '`upsert { query { q(func: eq(name, "Ann")) { v as uid } } mutation @if(eq(len(v), 0)) { set { uid(v) <name> "Ann" . } } }`'
 # The body of each verb that is built and has one.
-FORMS = {"alter": DEFINITION, "mutate": STATEMENT, "query": QUERY}
+FORMS = {"alter": DEFINITION, "mutate": STATEMENT, "query": QUERY, "upsert": UPSERT}
 # What a query may have.
 QUERIES = (
     "a query is as in `{ q(func: eq(name, \"Ann\"), first: 5) @filter(has(age)) { name friend { name } } }`: functions, filters, edges, "
     "counts, orders, pages, variables, aggregates, @cascade, @normalize and @recurse"
+)
+# What an upsert block may have.
+UPSERTS = (
+    "an upsert block is a query and mutations, which name its variables: `uid(v)` is each node of v, or one new node where it has none, "
+    "and `val(x)` the value of x at the subject"
 )
 # What is built where a request is answered 98.
 BUILT_VERBS = f"built are {', '.join(verb.line for verb in BUILT)}"
@@ -169,8 +180,8 @@ def meaning_of(refusal: Refusal, request: Optional[Request]) -> Meaning:
     spot = spot_of(refusal, request.body) if request else None
     if refusal.name == "SchemaSyntax" and spot and "@" in spot.text:
         meaning = meaning._replace(next=DIRECTIVES)
-    if refusal.name == "BadLiteral" and request is not None and request.verb.name == "query":
-        return NO_LITERAL
+    if refusal.name == "BadLiteral" and request is not None and request.verb.name in ("query", "upsert"):
+        return NO_LITERAL if request.verb.name == "query" else NO_VALUE
     if refusal.name not in TIPS or request is None or request.body is None or spot is None:
         return meaning
     front, rest = request.body[: int(refusal.fields)], request.body[int(refusal.fields) :]

@@ -1,4 +1,4 @@
-"""The checks of queries, over the rows of table_checks, whose answers were written by hand."""
+"""The checks of queries and upsert blocks, over the rows of table_checks, whose answers were written by hand."""
 
 from __future__ import annotations
 
@@ -9,16 +9,17 @@ from plain_checks import Schema, check, run_order
 from plain_machine import SchemaReader
 from plain_queries import Fault, read_query
 from plain_tokens import Refusal
+from plain_upserts import read_upsert, uses_of
 from tests.helpers import TOP
 
 ROWS = TOP / "crates" / "table_checks" / "stdout"
 
 
-def found(schema: Schema, text: str) -> str:
-    """What is wrong with a query, or the order in which its blocks are run."""
+def found(table: str, schema: Schema, text: str) -> str:
+    """What is wrong with a query or an upsert block, or the order in which its blocks are run."""
     try:
-        blocks = read_query(text)
-        check(schema, blocks)
+        blocks, mutations = (read_query(text), []) if table == "query" else read_upsert(text)
+        check(schema, blocks, uses_of(mutations))
     except Fault as fault:
         return f"no query by byte {fault.offset}"
     except Refusal as refusal:
@@ -27,7 +28,8 @@ def found(schema: Schema, text: str) -> str:
 
 
 class Rows(unittest.TestCase):
-    def test_queries_have_these_faults(self) -> None:
+    def faults(self, asked: str) -> Counter[str]:
+        """How often rows of a table have which fault, after each was found to have its own."""
         schema: Schema = {}
         met: Counter[str] = Counter()
         for row in ROWS.read_text(encoding="utf-8").splitlines():
@@ -35,11 +37,21 @@ class Rows(unittest.TestCase):
             text, _, wanted = rest.rpartition(" => ")
             if table == "schema":
                 schema = SchemaReader(text).read()
-            if table == "query":
-                self.assertEqual(found(schema, text), wanted, text)
+            if table == asked:
+                self.assertEqual(found(table, schema, text), wanted, text)
                 met[wanted.split()[0]] += 1
+        return met
+
+    def test_queries_have_these_faults(self) -> None:
+        met = self.faults("query")
         names = ("UnknownVariable", "VariableTwice", "VariableCycle", "NotIndexed", "BadLiteral", "BadPage", "BadDepth", "ok")
         self.assertTrue(all(met[name] > 3 for name in names), met)
+
+    def test_upsert_blocks_have_these_faults(self) -> None:
+        met = self.faults("upsert")
+        names = ("UnknownVariable", "VariableTwice", "VariableCycle", "NotIndexed", "BadLiteral", "BadPage", "BadDepth", "ok")
+        self.assertTrue(all(met[name] for name in names), met)
+        self.assertGreater(met["UnknownVariable"], 8)
 
 
 if __name__ == "__main__":

@@ -56,7 +56,7 @@ class Verbs(unittest.TestCase):
 
     def test_the_examples_of_the_help_are_answered(self) -> None:
         with Program(built_program()) as program:
-            for name in ("alter", "begin", "mutate", "query", "commit"):
+            for name in ("alter", "begin", "mutate", "query", "upsert", "commit"):
                 reply = program.ask(request_with(VERBS[name], "\n".join(EXAMPLES.get(name, [])).encode()))
                 assert reply
                 self.assertTrue(reply.is_ok, reply)

@@ -15,10 +15,13 @@ from unittest import mock
 import plain_machine as plain
 import random_scripts as scripts
 from plain_checks import places_of, uses_at
-from plain_queries import FUNCTIONS, read_query
+from plain_mutations import NodesOf, Statement, ValueOf
+from plain_queries import FUNCTIONS, Part, read_query
+from plain_upserts import given_by, is_taken
+from plain_variables import Variable
 from tests.helpers import SECONDS, TOOLS, InFolder
 
-BUILT = {f"ok {verb}" for verb in ("alter", "begin", "mutate", "query", "commit", "discard")}
+BUILT = {f"ok {verb}" for verb in ("alter", "begin", "mutate", "query", "upsert", "commit", "discard")}
 REFUSED = {f"error {number}" for number in (*range(1, 17), 19, 20, 22, 27, 98)}
 COMPARE = [sys.executable, "-B", TOOLS / "random_scripts.py", "compare"]
 
@@ -146,6 +149,40 @@ class Reach(unittest.TestCase):
                     met["aggregates"] += any(f'[{{"{word}(val('.encode() in reply for word in ("min", "max", "sum"))
         for kind in ("defined", "values", "nodes", "shown", "aggregates"):
             self.assertGreater(met[kind], 20, met)
+
+    def test_upsert_blocks_are_asked(self) -> None:
+        met: Counter[str] = Counter()
+
+        def given(statement: Statement, variables: dict[str, Variable]) -> list[Statement]:
+            """What a statement stands for, counted by how many there are of each of its sides."""
+            found = [*given_by(statement, variables)]
+            word = "delete" if statement.deletes else "set"
+            for side, said in (("subject", statement.subject), ("object", statement.object)):
+                if isinstance(said, NodesOf):
+                    met[f"{word} of {min(len(variables[said.name].nodes), 2)} as {side}"] += 1
+                if isinstance(said, ValueOf):
+                    met[f"{word} of a value" if found else f"{word} of no value"] += 1
+            return found
+
+        def taken(part: Part, variables: dict[str, Variable]) -> bool:
+            met[f"{is_taken(part, variables)}"] += 1
+            return is_taken(part, variables)
+
+        with mock.patch("plain_upserts.given_by", given), mock.patch("plain_upserts.is_taken", taken):
+            for number in range(200):
+                done = plain.run(scripts.script(number))
+                for request, reply in zip(done.requests, done.replies):
+                    if request.verb == "upsert":
+                        met[scripts.kind_of(reply)] += 1
+                        met["named"] += b'"uid(' in reply
+                        met["all"] += 1
+        self.assertGreater(met["all"], 500, met)
+        self.assertGreater(met["ok upsert"] * 2, met["all"], met)
+        self.assertGreater(met["named"], 50, met)
+        wanted = {f"{word} of {count} as {side}" for word in ("set", "delete") for count in range(3) for side in ("subject", "object")}
+        wanted |= {f"{word} of {count} value" for word in ("set", "delete") for count in ("a", "no")} | {"True", "False"}
+        wanted |= {f"error {number}" for number in (1, 3, 4, 5, 6, 7, 8, 9, 10, 13, 14, 15, 16)}
+        self.assertEqual({kind for kind in wanted if not met[kind]}, set(), met)
 
     def test_recursion_is_asked(self) -> None:
         asked: Counter[str] = Counter()

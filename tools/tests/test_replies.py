@@ -151,8 +151,8 @@ class Refusals(unittest.TestCase):
         self.assertIn("`/\\(/`", what_next(refusal, asked))
 
     def test_forms_that_are_built_are_shown_where_one_isnt(self) -> None:
-        built = "built are alter, begin SID, mutate SID, query SID, commit SID, discard SID"
-        for request in (request_of("line"), request_of("upsert", "1", body=b""), request_of("roll", "a")):
+        built = "built are alter, begin SID, mutate SID, query SID, upsert SID, commit SID, discard SID"
+        for request in (request_of("line"), request_of("movecopy", "a"), request_of("roll", "a")):
             self.assertEqual(self.next("error 98 Unbuilt", request), built)
 
     def test_a_byte_that_is_no_text(self) -> None:

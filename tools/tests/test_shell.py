@@ -77,7 +77,7 @@ class Shells(InFolder):
         self.assertIn("        friend: [uid] @reverse @count . ", shown)
         self.assertIn("behind the kind may stand @index(..)", shown)
         self.assertIn("moveoff PRED\n    it is read, and answered 98", shown)
-        self.assertIn("expected a verb (alter, begin, mutate, query, commit, discard); found 'foo'", shown)
+        self.assertIn("expected a verb (alter, begin, mutate, query, upsert, commit, discard); found 'foo'", shown)
 
     def test_words_that_end_it(self) -> None:
         for line in ("\\quit", "\\q", "quit", "exit", "Quit", "EXIT", "\\exit"):

@@ -13,6 +13,7 @@ use Rattle.dg_node.specs.Queries.{Queries}
 use Rattle.dg_node.specs.Transactions.{discarded, HasChanges}
 use Rattle.dg_node.specs.State.{machine_of, Leads, Stays, MayWant}
 use Rattle.dg_node.specs.Steps.{Outcome, Spares, Step, TakesMemory}
+use Rattle.dg_node.specs.Upserts.{Upserts}
 
 -- what follows from a step follows from where it leads
 pub leads_by : (before after : Held) (one other : Machine → Machine → Type 0) → ((m n : Machine) → one m n → other m n) → Leads before one after → Leads before other after
@@ -25,6 +26,7 @@ leads_nowhere before after step f stays = record { leads = subst (λ (n : Machin
 spares_all : (r : Request) (m : Machine) → Spares r m m
 spares_all (requests.Begin sid) m = inl refl
 spares_all (requests.Mutate sid body) m = inl refl
+spares_all (requests.Upsert sid body) m = inl refl
 spares_all r m = refl
 
 pub step_made : (list : List BadPattern) (before after : Held) (r : Request) (p : Reply) → Leads before (λ m n. Outcome list m r p n) after → Leads before (λ m n. Step list m r p n) after
@@ -49,6 +51,11 @@ pub query_led : {E : Type 0} (list : List BadPattern) (r : Result Reply E) (engi
 query_led list r engine request sid body text e f leads =
     subst (λ (q : Request). IfOk r (λ p. Leads engine (λ m n. Outcome list m q p n) engine)) (sym e)
     (subst (λ (b : List ℕ). IfOk r (λ p. Leads engine (λ m n. Queries list m sid b p n) engine)) f leads)
+
+pub upsert_led : {E : Type 0} (list : List BadPattern) (r : Result Reply E) (before after : Held) (request : Request) (sid : ℕ) (body text : List ℕ) → request ≡ requests.Upsert sid body → text ≡ body → IfOk r (λ p. Leads before (λ m n. Upserts list m sid text p n) after) → IfOk r (λ p. Leads before (λ m n. Outcome list m request p n) after)
+upsert_led list r before after request sid body text e f leads =
+    subst (λ (q : Request). IfOk r (λ p. Leads before (λ m n. Outcome list m q p n) after)) (sym e)
+    (subst (λ (b : List ℕ). IfOk r (λ p. Leads before (λ m n. Upserts list m sid b p n) after)) f leads)
 
 pub discard_led : (list : List BadPattern) (p : Reply) (before after : Held) (request : Request) (sid : ℕ) → request ≡ requests.Discard sid → Leads before (λ m n. discarded m sid ≡ (p, n)) after → Leads before (λ m n. Outcome list m request p n) after
 discard_led list p before after request sid e leads = subst (λ (q : Request). Leads before (λ m n. Outcome list m q p n) after) (sym e) leads

@@ -5,7 +5,7 @@ use Rattle.std.specs.Str.Lossy.{utf8_valid_len}
 use Rattle.dg_edges.specs.declared.edge.Edge.{Edge}
 use Rattle.dg_edges.specs.declared.fault.EdgeFault.{EdgeFault}
 use Rattle.dg_edges.specs.Deltas.{AreFitting}
-use Rattle.dg_edges.specs.Resolving.{Resolves, IsResolved}
+use Rattle.dg_edges.specs.Resolving.{Resolves, IsAnswer, IsResolved}
 use Rattle.dg_edges.specs.Expanding.{new_names, top_uid, expanded}
 use Rattle.dg_edges.proofs.ExpandLaws.{expanded_fits}
 use Rattle.dg_nquad.specs.declared.mutation.Statement.{Statement}
@@ -42,8 +42,9 @@ pub checked_fits : (z : Zero) (author : ℕ) (txn : Transaction) (edges : List E
 checked_fits z author txn edges first l o r = expanded_fits txn.schema (graph txn) r.0 edges first r.1 (seen_lawful z.groups z.history author txn l o)
 
 -- what was resolved was checked
-pub resolved_by : (txn : Transaction) (statements : List Statement) (edges : List Edge) → Resolves txn.schema statements (Ok edges) → IsResolved txn.schema edges
-resolved_by txn statements edges r = (statements, r)
+pub resolved_by : (txn : Transaction) (statements : List Statement) (checked : Result (List Edge) EdgeFault) → IsAnswer (Resolves txn.schema statements) checked → IfOk checked (IsResolved txn.schema)
+resolved_by txn statements (Ok edges) r = (statements, r)
+resolved_by txn statements (Err fault) r = tt
 
 -- a session that has no transaction
 pub none_mutates : (sid : ℕ) (body : List ℕ) (m : Machine) → session_of m sid ≡ None → Mutates m sid body (replies.Refused (refusals.NoSession sid)) m

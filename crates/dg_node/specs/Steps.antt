@@ -13,12 +13,14 @@ use Rattle.dg_node.specs.Alters.{alters}
 use Rattle.dg_node.specs.Transactions.{begun, committed, discarded, HasChanges}
 use Rattle.dg_node.specs.Mutations.{Mutates}
 use Rattle.dg_node.specs.Queries.{Queries}
+use Rattle.dg_node.specs.Upserts.{Upserts}
 
 -- what a request is answered and leaves, where there is memory and these patterns were refused by the end of the run
 abbrev pub Outcome : List BadPattern → Machine → Request → Reply → Machine → Type 0
 Outcome list old (requests.Alter body) reply new = alters old body ≡ (reply, new)
 Outcome list old (requests.Begin sid) reply new = begun old sid ≡ (reply, new)
 Outcome list old (requests.Mutate sid body) reply new = Mutates old sid body reply new
+Outcome list old (requests.Upsert sid body) reply new = Upserts list old sid body reply new
 Outcome list old (requests.Query sid body) reply new = Queries list old sid body reply new
 Outcome list old (requests.Commit sid) reply new = committed old sid ≡ (reply, new)
 Outcome list old (requests.Discard sid) reply new = discarded old sid ≡ (reply, new)
@@ -29,6 +31,7 @@ abbrev pub TakesMemory : Machine → Request → Type 0
 TakesMemory old (requests.Alter body) = ⊤
 TakesMemory old (requests.Begin sid) = ⊤
 TakesMemory old (requests.Mutate sid body) = ⊤
+TakesMemory old (requests.Upsert sid body) = ⊤
 TakesMemory old (requests.Query sid body) = ⊤
 TakesMemory old (requests.Commit sid) = HasChanges old sid
 TakesMemory old request = ⊥
@@ -44,11 +47,12 @@ pub record Raises (outcome : Machine → Reply → Machine → Type 0) (old new 
 abbrev pub MayRaise : (Machine → Reply → Machine → Type 0) → Machine → Machine → Type 0
 MayRaise outcome old new = (new ≡ old) ⊎ Raises outcome old new
 
--- what a request leaves where memory is wanting: a begin may have drawn one timestamp, which isn't given back, and a mutation may
--- have raised the next node, as its lease says
+-- what a request leaves where memory is wanting: a begin may have drawn one timestamp, which isn't given back, and a mutation or an
+-- upsert may have raised the next node, as its lease says, for which all its patterns were built
 abbrev pub Spares : Request → Machine → Machine → Type 0
 Spares (requests.Begin sid) old new = (new ≡ old) ⊎ (new ≡ drawn old (old.next + 1))
 Spares (requests.Mutate sid body) old new = MayRaise (λ machine. Mutates machine sid body) old new
+Spares (requests.Upsert sid body) old new = MayRaise (λ machine. Upserts [] machine sid body) old new
 Spares request old new = new ≡ old
 
 -- memory is wanting

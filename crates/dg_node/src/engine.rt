@@ -8,6 +8,7 @@ use crate::mutations::mutate;
 use crate::owned::Owned;
 use crate::queries::query;
 use crate::transactions::{begin, commit, discard, no_session};
+use crate::upserts::upsert;
 use dg_check::Patterns;
 use dg_txn::Txn;
 use dg_values::{Mem, OutOfMemory};
@@ -46,7 +47,7 @@ impl Model for Engine {
 impl Engine {
     ghost use Rattle.std.specs.Prelude.{◌≡◌, ◌≤◌, ◌^◌, IfOk, OnErr, length};
     ghost use Rattle.dg_check.specs.Patterns.{IsFrontOf};
-    ghost use Rattle.dg_wire.specs.declared.request.Request.TheVariants.{Begin, Mutate};
+    ghost use Rattle.dg_wire.specs.declared.request.Request.TheVariants.{Begin, Mutate, Upsert};
     ghost use Rattle.dg_node.specs.Machine.{empty, empty_from};
     ghost use Rattle.dg_node.specs.Alters.{alters};
     ghost use Rattle.dg_node.specs.Mutations.{Mutates};
@@ -54,6 +55,7 @@ impl Engine {
     ghost use Rattle.dg_node.specs.Steps.{Spares};
     ghost use Rattle.dg_node.specs.Transactions.{begun, committed, discarded, HasChanges};
     ghost use Rattle.dg_node.specs.State.{machine_of, StandsFor, Leads, Stays};
+    ghost use Rattle.dg_node.specs.Upserts.{Upserts};
 
     /// Nothing is declared, committed or open. The error is want of memory.
     pub fn new(alloc: Global, groups: u32) -> Mem<Self>
@@ -121,6 +123,35 @@ impl Engine {
             AUTHOR,
             sid,
             body,
+        )
+    }
+
+    /// Evaluates an upsert block, and adds the changes of its mutations to a transaction's own. After an error the transaction is as it
+    /// was; the next node may be raised. The maker's list of refused patterns may grow.
+    pub fn upsert<P: Patterns>(
+        &mut self,
+        alloc: Global,
+        sid: u32,
+        body: &[u8],
+        patterns: &mut P,
+    ) -> Mem<Reply>
+        requires { length body.now ≤ 1048576 }
+        ensures ok { IfOk result (λ reply. Leads self.old (λ m n. Upserts (P.refused patterns.new) m sid body.now reply n) self.new) }
+        ensures err { OnErr result (Leads self.old (λ m n. Spares (Upsert sid body.now) m n) self.new) }
+        ensures grows { IsFrontOf (P.refused patterns.old) (P.refused patterns.new) }
+    {
+        let Some(place) = place_of(self.slots.as_slice(), sid) else {
+            return Ok(no_session(sid));
+        };
+        self.cluster.at_rest();
+        upsert(
+            alloc,
+            &mut self.cluster,
+            &mut self.slots[place].txn,
+            AUTHOR,
+            sid,
+            body,
+            patterns,
         )
     }
 

@@ -2,6 +2,7 @@
 ghost use Rattle.dg_node.specs.Complete.{IsComplete};
 ghost use Rattle.dg_node.specs.State.{HistoriesAgree};
 ghost use Rattle.dg_node.specs.Steps.{IsDetermined};
+ghost use Rattle.dg_node.specs.Touching.{LaterBegan, NoneUnseen};
 
 /// The replies to a list of requests, and the state behind them, are one alone where no reply says that memory was
 /// wanting.
@@ -19,4 +20,16 @@ pub fn frames_are_answered()
 /// committed, and at each timestamp the same graph.
 pub fn histories_agree()
     ensures { HistoriesAgree }
+{}
+
+/// Of two commits that touch one value of a predicate with `@upsert` and an index, the later one's transaction began at
+/// or after the earlier commit.
+pub fn later_began()
+    ensures { LaterBegan }
+{}
+
+/// So two transactions that both found no node with such a value can't both commit one, unless a commit between them
+/// took the first one's away.
+pub fn none_unseen()
+    ensures { NoneUnseen }
 {}

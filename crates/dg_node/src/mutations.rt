@@ -1,9 +1,10 @@
 // What `mutate` does.
-ghost use Rattle.std.specs.Prelude.{◌≡◌, ◌+◌, ◌<◌, ◌≤◌, ◌^◌, true, Some, is_some, length, IfOk, OnOk, OnErr};
+ghost use Rattle.std.specs.Prelude.{◌≡◌, ◌+◌, ◌<◌, ◌≤◌, ◌^◌, true, List, Some, is_some, length, IfOk, OnOk, OnErr};
 ghost use Rattle.std.specs.List.{AllByRecursion};
 ghost use Rattle.dg_edges.specs.Deltas.{AreFitting};
 ghost use Rattle.dg_edges.specs.Expanding.{new_names, expanded};
-ghost use Rattle.dg_edges.specs.Resolving.{IsResolved};
+ghost use Rattle.dg_edges.specs.Resolving.{Resolves, IsAnswer, IsResolved};
+ghost use Rattle.dg_nquad.specs.declared.mutation.Statement.{Statement};
 ghost use Rattle.dg_nquad.specs.Plain.{HasNoVariable};
 ghost use Rattle.dg_nquad.specs.Whole.{mutation};
 ghost use Rattle.dg_wire.specs.declared.request.Request.TheVariants.{Mutate};
@@ -118,7 +119,33 @@ fn mutate_with<C: Cluster>(
     ensures opened { IsOpen (C.zero cluster.new).history author txn.new }
     ensures legal { IsLegal (C.zero cluster.new).groups (C.zero cluster.new).history }
 {
-    match resolve(alloc, txn.schema(), mutation) {
+    let checked = resolve(alloc, txn.schema(), mutation);
+    add_checked(alloc, cluster, txn, author, sid, checked)
+}
+
+// Adds the changes of statements to a transaction, once they were checked against its schema, or says why they were refused.
+pub(crate) fn add_checked<C: Cluster>(
+    alloc: Global,
+    cluster: &mut C,
+    txn: &mut Txn,
+    author: u32,
+    sid: u32,
+    checked: Result<Resolved, EdgeFault>,
+) -> Mem<Reply>
+    requires own { C.takes cluster.old author ≡ true }
+    requires legal { IsLegal (C.zero cluster.old).groups (C.zero cluster.old).history }
+    requires opened { IsOpen (C.zero cluster.old).history author txn.old }
+    requires resolved { IfOk checked (IsResolved txn.old.schema) }
+    ensures same { C.takes cluster.new ≡ C.takes cluster.old }
+    ensures ok { (statements : List Statement) → IsAnswer (Resolves txn.old.schema statements) checked
+        → IfOk result (λ reply. Meets (C.takes cluster.old) (C.zero cluster.old) (C.zero cluster.new) (Serves author sid (Some txn.old) (Some txn.new) (λ m n. MutatesBy m (session_by sid txn.old) statements reply n))) }
+    ensures err { (statements : List Statement) → IsAnswer (Resolves txn.old.schema statements) checked
+        → OnErr result (Meets (C.takes cluster.old) (C.zero cluster.old) (C.zero cluster.new) (Serves author sid (Some txn.old) (Some txn.new) (MayRaise (λ m. MutatesBy m (session_by sid txn.old) statements)))) }
+    ensures kept { OnErr result (txn.new ≡ txn.old) }
+    ensures opened { IsOpen (C.zero cluster.new).history author txn.new }
+    ensures legal { IsLegal (C.zero cluster.new).groups (C.zero cluster.new).history }
+{
+    match checked {
         Ok(resolved) => lease(alloc, cluster, txn, author, sid, &resolved),
         Err(EdgeFault::NoPredicate { pred }) => Ok(Reply::Refused(Refusal::NoPredicate { pred })),
         Err(EdgeFault::WrongObject { pred }) => Ok(Reply::Refused(Refusal::WrongObject { pred })),

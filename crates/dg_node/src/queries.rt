@@ -96,7 +96,7 @@ fn query_read<P: Patterns>(
 }
 
 // The refusal of a fault that the checks find, unless it is want of memory.
-fn refused_check(fault: CheckFault) -> Mem<Reply>
+pub(crate) fn refused_check(fault: CheckFault) -> Mem<Reply>
     ensures refused { IfOk result (λ reply. reply ≡ Reply.Refused (refusal_of_check fault)) }
     ensures found { IsOk result → fault ≢ faults.OutOfMemory }
 {
