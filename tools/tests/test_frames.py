@@ -97,7 +97,7 @@ class Reasons(unittest.TestCase):
 
     def test_each_rule_of_a_header(self) -> None:
         for line, expected, found in (
-            (b"walk 1\n", "a verb (alter, begin, mutate, query, commit, discard)", "'walk'"),
+            (b"walk 1\n", "a verb (alter, begin, mutate, query, upsert, commit, discard)", "'walk'"),
             (b"Begin 1\n", "a verb", "'Begin'; verbs have small letters: `begin`"),
             (b"comit 1\n", "a verb", "'comit'; is `commit` meant?"),
             (b" begin 1\n", "a verb", "''"),
