@@ -8,6 +8,8 @@ import subprocess
 import sys
 from pathlib import Path
 
+import plain_machine as plain
+from rows_frames import script_of
 from tests.helpers import EXAMPLES, SECONDS, TOP, InFolder
 
 # A program that does with each script of the examples what its files say, and what else it is told to.
@@ -162,6 +164,12 @@ class Statuses(InFolder):
         done = subprocess.run(words, capture_output=True, encoding="utf-8", timeout=SECONDS)
         self.assertEqual(done.returncode, 1)
         for what, status in (("a folder as the input", 1), ("no room for the output", 2), ("the words 'walk'", 3),
-                             ("no verb", 4), ("an input that is too long", 5)):
+                             ("no verb", 4), ("an input that is too long", 5), ("the first load of 3,000 nodes", 0)):
             self.assertIn(f"{what}: status 0, and not {status}; it said '', and wrote '", done.stdout)
         self.assertIn("statuses: 1 passed, ", done.stdout)
+
+    def test_the_line_of_a_load_is_the_plain_machines(self) -> None:
+        replies = plain.run(script_of(7, 3_000).encode()).replies
+        refused = sum(reply.startswith(b"error ") for reply in replies)
+        line = f"requests {len(replies)} ok {len(replies) - refused} errors {refused} bytes {sum(map(len, replies))}\\n"
+        self.assertIn(f"\nloaded_more=$'{line}'\n", (TOP / ".ci" / "statuses").read_text(encoding="utf-8"))
