@@ -164,7 +164,8 @@ class Statuses(InFolder):
         done = subprocess.run(words, capture_output=True, encoding="utf-8", timeout=SECONDS)
         self.assertEqual(done.returncode, 1)
         for what, status in (("a folder as the input", 1), ("no room for the output", 2), ("the words 'walk'", 3),
-                             ("no verb", 4), ("an input that is too long", 5), ("the first load of 3,000 nodes", 0)):
+                             ("no verb", 4), ("an input that is too long", 5), ("the first load of 3,000 nodes", 0),
+                             ("a product that is too large for memory", 0)):
             self.assertIn(f"{what}: status 0, and not {status}; it said '', and wrote '", done.stdout)
         self.assertIn("statuses: 1 passed, ", done.stdout)
 
