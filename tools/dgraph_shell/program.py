@@ -24,7 +24,7 @@ HOW_TO_BUILD = "README.md says how it is built: `(cd crates/dgraph && rt run -- 
 STATUSES = {
     1: "its input couldn't be read",
     2: "its replies couldn't be written: nobody reads them, or there is no room for them",
-    3: "it takes the one word `run`",
+    3: "it takes `run` alone, `gen --seed S --size N` or `load --seed S --size N`",
     4: "a frame was bad: `why FILE` says which rule it breaks",
     5: f"its input had more than {MAX_INPUT:,} bytes: start it anew for the rest",
     6: "there wasn't enough memory: what it held is lost; a script that was saved can be run again, in parts",

@@ -18,8 +18,8 @@ from .verbs import GROUP
 
 DESCRIPTION = "Scripts that people can write for `dgraph run`, and a shell over it."
 EPILOG = """\
-The program itself, crates/dgraph/out/dgraph, takes the one word `run`: it reads frames from standard input and writes
-one reply for each. docs/SHELL.md says what each command does, and how scripts and frames are written."""
+With the one word `run` the program itself, crates/dgraph/out/dgraph, reads frames from standard input and writes one
+reply for each; docs/REFERENCE.md has its other words. docs/SHELL.md says what each command does, and how scripts and frames are written."""
 
 
 class Parser(argparse.ArgumentParser):

@@ -57,8 +57,8 @@ class Runs(InFolder):
     def test_groups_are_handed_on(self) -> None:
         program = self.program(status=3)
         self.assertIn("status 3: run\n", self.run_over("", program).stderr)
-        self.assertIn("status 3: run --groups 16\n    it takes the one word `run`\n",
-                      self.run_over("", program, "--groups", "16").stderr)
+        said = "status 3: run --groups 16\n    it takes `run` alone, `gen --seed S --size N` or `load --seed S --size N`\n"
+        self.assertIn(said, self.run_over("", program, "--groups", "16").stderr)
         done = self.run_over("", program, "--groups", "17")
         self.assertEqual(done.returncode, BAD_WORDS)
         self.assertIn("expected a number from 1 to 16, found '17'", done.stderr)
@@ -166,7 +166,7 @@ class FramesOfFiles(InFolder):
         for words in ((), ("foo",), ("frame",), ("frame", "a", "b"), ("run", "a", "--colour")):
             self.assertEqual(self.tool(*words).returncode, BAD_WORDS)
         self.assertEqual(self.tool("--help").returncode, 0)
-        self.assertIn("takes the one word `run`", self.tool("--help").stdout)
+        self.assertIn("With the one word `run` the program itself, ", self.tool("--help").stdout)
         for command in ("run", "shell", "check", "frame", "unframe", "why"):
             self.assertIn(f"    {command} ", self.tool().stderr)
 
