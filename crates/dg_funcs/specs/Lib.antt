@@ -9,3 +9,4 @@ pub mod Laws
 pub mod Filed
 pub mod Numbers
 pub mod Listed
+pub mod Reads

@@ -1,10 +1,11 @@
 // Which index of a predicate files values under themselves.
-ghost use Rattle.std.specs.Prelude.{◌≡◌, true, IfSome};
-ghost use Rattle.std.specs.List.{list_all};
+ghost use Rattle.std.specs.Prelude.{◌≡◌, true, IfSome, IsTrue, is_some};
+ghost use Rattle.std.specs.List.{list_all, list_any};
 ghost use Rattle.dg_values.specs.Order.{tokenizer_cmp};
 ghost use Rattle.dg_values.specs.Ascending.{has};
 ghost use Rattle.dg_graph.specs.Lookups.{is_indexed_by};
 ghost use Rattle.dg_funcs.specs.Equal.{is_filed};
+ghost use Rattle.dg_funcs.specs.Reads.{is_whole, of_whole_values, has_whole_index};
 
 use dg_graph::Snapshot;
 use dg_values::{Tokenizer, Value};
@@ -36,21 +37,31 @@ fn has_tokenizer(tokens: &[Tokenizer], tokenizer: Tokenizer) -> bool
     tokens.iter().any(|token| token.cmp(&tokenizer).is_eq())
 }
 
-// One of these tokenizers by which each value is its own token.
+// Whether a tokenizer is one of these, and each value is its own token by it.
+fn is_whole(tokens: &[Tokenizer], values: &[Value], tokenizer: Tokenizer) -> bool
+    ensures whole { result ≡ is_whole tokens.now values.now tokenizer }
+    ensures among { IsTrue result → has tokenizer_cmp tokens.now tokenizer ≡ true }
+    ensures filed { IsTrue result → list_all (is_filed tokenizer) values.now ≡ true }
+{
+    has_tokenizer(tokens, tokenizer) && all_filed(tokenizer, values)
+}
+
+// One of these tokenizers by which each value is its own token. None only where there is none.
 fn whole(tokens: &[Tokenizer], values: &[Value]) -> Option<Tokenizer>
     ensures among { IfSome result (λ t. has tokenizer_cmp tokens.now t ≡ true) }
     ensures filed { IfSome result (λ t. list_all (is_filed t) values.now ≡ true) }
+    ensures found { is_some result ≡ list_any (is_whole tokens.now values.now) of_whole_values }
 {
-    if has_tokenizer(tokens, Tokenizer::Exact) && all_filed(Tokenizer::Exact, values) {
+    if is_whole(tokens, values, Tokenizer::Exact) {
         return Some(Tokenizer::Exact);
     }
-    if has_tokenizer(tokens, Tokenizer::Hash) && all_filed(Tokenizer::Hash, values) {
+    if is_whole(tokens, values, Tokenizer::Hash) {
         return Some(Tokenizer::Hash);
     }
-    if has_tokenizer(tokens, Tokenizer::Int) && all_filed(Tokenizer::Int, values) {
+    if is_whole(tokens, values, Tokenizer::Int) {
         return Some(Tokenizer::Int);
     }
-    if has_tokenizer(tokens, Tokenizer::Bool) && all_filed(Tokenizer::Bool, values) {
+    if is_whole(tokens, values, Tokenizer::Bool) {
         return Some(Tokenizer::Bool);
     }
     None
@@ -66,10 +77,11 @@ pub(crate) fn is_indexed<S: Snapshot>(snap: &S, p: &str, tokenizer: Tokenizer) -
     }
 }
 
-/// The tokenizer of an index of the predicate by which each value is its own token.
+/// The tokenizer of an index of the predicate by which each value is its own token. None only where there is none.
 pub(crate) fn whole_index<S: Snapshot>(snap: &S, p: &str, values: &[Value]) -> Option<Tokenizer>
     ensures indexed { IfSome result (λ t. is_indexed_by (S.declared snap.now) p.now t ≡ true) }
     ensures filed { IfSome result (λ t. list_all (is_filed t) values.now ≡ true) }
+    ensures found { is_some result ≡ has_whole_index (S.declared snap.now) p.now values.now }
 {
     match snap.schema().lookup(p) {
         Some(definition) => whole(definition.tokens.as_slice(), values),

@@ -1,5 +1,5 @@
 // The nodes that a function gives at a root.
-ghost use Rattle.std.specs.Prelude.{◌≡◌, ◌++◌, Option, option_to_list, filter_map, IfOk, OnOk};
+ghost use Rattle.std.specs.Prelude.{◌≡◌, ◌+◌, ◌++◌, Option, option_to_list, filter_map, IfOk, OnOk, IfSome};
 ghost use Rattle.dg_graph.specs.Graphs.{objects, IsLawful};
 ghost use Rattle.dg_graph.specs.Lookups.{node_in, pointed_to};
 ghost use Rattle.dg_values.specs.declared.kind.Kind.{Kind};
@@ -8,6 +8,7 @@ ghost use Rattle.dg_check.specs.declared.parts.Func.TheVariants as funcs;
 ghost use Rattle.dg_check.specs.declared.parts.Of.TheVariants as part;
 ghost use Rattle.dg_check.specs.Vars.{nodes_of};
 ghost use Rattle.dg_funcs.specs.Roots.{nodes_with, nodes_of_part, candidates, root_nodes};
+ghost use Rattle.dg_funcs.specs.Reads.{lists_read};
 
 use crate::allterms::root_of_all_terms;
 use crate::anyterms::root_of_any_term;
@@ -207,7 +208,8 @@ fn root_of_equal<S: Snapshot, L: Ledger>(
     reads: &mut Steps<L>,
 ) -> Mem<Uids>
     requires equal { (kind : Option Kind) × (func.now ≡ funcs.Cmp ops.Eq (part.Pred p.now) kind values.now) }
-    ensures { IfOk result (λ uids. uids ≡ root_nodes (S.graph snap.now) vars.now.variables func.now) }
+    ensures nodes { IfOk result (λ uids. uids ≡ root_nodes (S.graph snap.now) vars.now.variables func.now) }
+    ensures reads { IfSome (lists_read (S.declared snap.now) func.now) (λ n. OnOk result (reads.new ≡ reads.old + n)) }
 {
     match whole_index(snap, p, values) {
         Some(tokenizer) => equal_by_index(alloc, snap, p, tokenizer, values, reads),
@@ -227,7 +229,8 @@ fn root_of_comparison<S: Snapshot, L: Ledger>(
     reads: &mut Steps<L>,
 ) -> Mem<Uids>
     requires given { (kind : Option Kind) × (func.now ≡ funcs.Cmp op of.now kind values.now) }
-    ensures { IsLawful (S.declared snap.now) (S.graph snap.now) → IfOk result (λ uids. uids ≡ root_nodes (S.graph snap.now) vars.now.variables func.now) }
+    ensures nodes { IsLawful (S.declared snap.now) (S.graph snap.now) → IfOk result (λ uids. uids ≡ root_nodes (S.graph snap.now) vars.now.variables func.now) }
+    ensures reads { IfSome (lists_read (S.declared snap.now) func.now) (λ n. OnOk result (reads.new ≡ reads.old + n)) }
 {
     match of {
         Of::Pred(p) => root_of_values(alloc, snap, func, op, p.as_str(), values, vars, reads),
@@ -248,7 +251,8 @@ fn root_of_values<S: Snapshot, L: Ledger>(
     reads: &mut Steps<L>,
 ) -> Mem<Uids>
     requires given { (kind : Option Kind) × (func.now ≡ funcs.Cmp op (part.Pred p.now) kind values.now) }
-    ensures { IsLawful (S.declared snap.now) (S.graph snap.now) → IfOk result (λ uids. uids ≡ root_nodes (S.graph snap.now) vars.now.variables func.now) }
+    ensures nodes { IsLawful (S.declared snap.now) (S.graph snap.now) → IfOk result (λ uids. uids ≡ root_nodes (S.graph snap.now) vars.now.variables func.now) }
+    ensures reads { IfSome (lists_read (S.declared snap.now) func.now) (λ n. OnOk result (reads.new ≡ reads.old + n)) }
 {
     match op {
         CmpOp::Eq => root_of_equal(alloc, snap, func, p, values, vars, reads),
@@ -303,7 +307,8 @@ fn root_of_span<S: Snapshot, L: Ledger>(
 /// | `le`, `lt` of `count` to one value, and `between`, with `@count` | one for each number that stands so; they tell alone |
 /// | `ge`, `gt` of `count` to one value, with `@count` | one for each number that doesn't, and all nodes with an object; they tell alone |
 ///
-/// For all else each node that can pass is asked: each with an object of the predicate, or with a value of the variable.
+/// For all else each node that can pass is asked: each with an object of the predicate, or with a value of the variable. How many
+/// lists are read is promised for `eq` by exact, hash, int or bool alone.
 pub fn root<S: Snapshot, L: Ledger>(
     alloc: Global,
     snap: &S,
@@ -311,7 +316,8 @@ pub fn root<S: Snapshot, L: Ledger>(
     vars: &Vars,
     reads: &mut Steps<L>,
 ) -> Mem<Uids>
-    ensures { IsLawful (S.declared snap.now) (S.graph snap.now) → IfOk result (λ uids. uids ≡ root_nodes (S.graph snap.now) vars.now.variables func.now) }
+    ensures nodes { IsLawful (S.declared snap.now) (S.graph snap.now) → IfOk result (λ uids. uids ≡ root_nodes (S.graph snap.now) vars.now.variables func.now) }
+    ensures reads { IfSome (lists_read (S.declared snap.now) func.now) (λ n. OnOk result (reads.new ≡ reads.old + n)) }
 {
     match func {
         Func::Uid(names) => named(alloc, vars, names.as_slice()),

@@ -7,8 +7,8 @@ use Rattle.dg_funcs.specs.Roots.{nodes_with, root_nodes}
 use Rattle.dg_funcs.proofs.RootLaws.{root_of_uid, root_of_has}
 use Rattle.dg_funcs.proofs.roots.root.Goals as goal
 
-pub returns-in-Uid : goal.returns-in-Uid
-returns-in-Uid g c lawful =
+pub returns-in-Uid-clause-nodes : goal.returns-in-Uid-clause-nodes
+returns-in-Uid-clause-nodes g c lawful =
     let graph = g.S.Snapshot.graph c.args.snap.now in
     let vars = c.args.vars.now.variables in
     let back = sym c.in-Uid.is in
@@ -16,8 +16,8 @@ returns-in-Uid g c lawful =
     (λ i. ascending nat_cmp (named_nodes vars (c.as_slice.ensures i))) ∙ (sym (root_of_uid graph vars c.in-Uid.names) ∙ λ i. root_nodes graph vars (back i)) in
     subst (λ (ys : List ℕ). IfOk c.named.result (λ uids. uids ≡ ys)) e c.named.ensures
 
-pub returns-in-Has : goal.returns-in-Has
-returns-in-Has g c lawful =
+pub returns-in-Has-clause-nodes : goal.returns-in-Has-clause-nodes
+returns-in-Has-clause-nodes g c lawful =
     let graph = g.S.Snapshot.graph c.args.snap.now in
     let vars = c.args.vars.now.variables in
     let back = sym c.in-Has.is in
