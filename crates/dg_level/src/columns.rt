@@ -95,7 +95,8 @@ pub fn value_content(kept: &Item) -> Content
 
 /// What the nodes of a level show, each in its own row. Each list is read once for each node of a level and each field, and
 /// the row of a node of the level below is made once, whatever number of nodes lead to it. Where a cascade goes on from above, or
-/// an edge begins one, lists lose the nodes at which a field is missing, before anything is made of these.
+/// an edge begins one, lists lose the nodes at which a field is missing, before anything is made of these; for that the lists below
+/// are read once more.
 ///
 /// # Errors
 ///

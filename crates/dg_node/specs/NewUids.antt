@@ -17,7 +17,7 @@ numbered first (name ∷ names) = (record { name = name; uid = first }) ∷ numb
 abbrev pub numbered_cmp : Numbered → Numbered → Ordering
 numbered_cmp a b = ordering_then (text_cmp a.name b.name) (nat_cmp a.uid b.uid)
 
--- `"NAME":"0xUID"`; a name has letters, digits and _ alone, so it is its own string of JSON
+-- `"NAME":"0xUID"`; a name is letters, digits and _, or `uid(X)` of a variable, in whose name dots may stand: it is its own string of JSON
 abbrev pub member_text : Numbered → List ℕ
 member_text n = codes "\"" ++ (n.name ++ (codes "\":\"0x" ++ (digits 16 false n.uid ++ codes "\"")))
 
