@@ -2,7 +2,7 @@
 """Prints the rows of crates/table_levels: `rows_levels.py stdin` the rows, `rows_levels.py stdout` with their answers.
 
 Graphs and queries are random. The answers come from `plain_levels.py`, which goes node by node over triples alone. The rows of whole
-queries stand in `rows_variables.py` and `rows_recursions.py`.
+queries stand in `rows_variables.py` and `rows_recursions.py`, those of the calls that are made in `rows_counted.py`.
 """
 
 from __future__ import annotations
@@ -12,6 +12,7 @@ import sys
 from collections.abc import Iterator
 from typing import Optional
 
+import rows_counted
 import rows_recursions
 import rows_variables
 from plain_answers import View
@@ -235,6 +236,7 @@ HAND = [
     "set\t1 name text:a\tx name text:b",
     "set\t1 age int:x",
     "ring\tx",
+    "counted\t{ q(func: uid(0x1)) }",
     "schema\tname: strin .",
     "else\t1",
 ]
@@ -258,6 +260,7 @@ def rows() -> Iterator[tuple[str, Optional[str]]]:
     yield from ring_rows()
     yield from rows_variables.ring_rows()
     yield from rows_recursions.ring_rows()
+    yield from rows_counted.rows()
     yield "# Rows that can't be read.", ""
     yield from ((row, None) for row in HAND)
 

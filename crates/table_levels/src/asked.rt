@@ -2,10 +2,11 @@
 ghost use Rattle.std.specs.Prelude.{◌≡◌, ◌≤◌, ◌<◌, length};
 ghost use Rattle.dg_check.specs.Outcomes.{IsPlanOf};
 
+use crate::counted::Counted;
 use crate::ground::{Ground, MOST};
 use dg_check::{CheckFault, Parts, Plan, RegexPatterns, Vars, check};
 use dg_funcs::root;
-use dg_graph::Plain;
+use dg_graph::{Plain, Snapshot};
 use dg_level::{Rows, RunFault, rows_of, run_plan};
 use dg_parse::{DqlFault, QBlock, Query, parse};
 use dg_tree::TreeFault;
@@ -174,11 +175,16 @@ pub(crate) fn size(alloc: Global, ground: &Ground, text: &str) -> Mem<Option<Str
 }
 
 // What a checked query answers, or why it has no answer.
-fn plan_text<L: Ledger>(alloc: Global, at: &Plain, plan: &Plan, blank: Blank) -> Mem<String>
+fn plan_text<S: Snapshot, L: Ledger>(
+    alloc: Global,
+    at: &S,
+    plan: &Plan,
+    blank: Blank,
+) -> Mem<String>
     requires name { blank.name ≡ L.name }
     requires parts { blank.parts ≡ L.parts }
     requires some { 0 < blank.parts }
-    requires plan { IsPlanOf at.now.schema plan.now.query plan.now }
+    requires plan { IsPlanOf (S.declared at.now) plan.now.query plan.now }
 {
     let mut reads = Steps::<L>::new(blank);
     match run_plan(alloc, at, plan, &mut reads) {
@@ -188,15 +194,30 @@ fn plan_text<L: Ledger>(alloc: Global, at: &Plain, plan: &Plan, blank: Blank) ->
     }
 }
 
-/// `QUERY`: what all its blocks answer, or why there is no answer.
-pub(crate) fn answer(alloc: Global, ground: &Ground, text: &str) -> Mem<Option<String>> {
+// What all blocks of a query answer, or why there is no answer.
+fn answer_over<S: Snapshot>(alloc: Global, at: &S, text: &str) -> Mem<Option<String>> {
     let Some(query) = query_of(alloc, text)? else {
         return Ok(None);
     };
     let mut maker = RegexPatterns::new(alloc);
-    match check(alloc, query, &ground.at.schema, &mut maker) {
-        Ok(plan) => Ok(Some(plan_text::<Brand>(alloc, &ground.at, &plan, Blank::new(1))?)),
+    match check(alloc, query, at.schema(), &mut maker) {
+        Ok(plan) => Ok(Some(plan_text::<S, Brand>(alloc, at, &plan, Blank::new(1))?)),
         Err(CheckFault::OutOfMemory) => Err(OutOfMemory),
         Err(_) => Ok(None),
     }
+}
+
+/// `QUERY`: what all its blocks answer, or why there is no answer.
+pub(crate) fn answer(alloc: Global, ground: &Ground, text: &str) -> Mem<Option<String>> {
+    answer_over(alloc, &ground.at, text)
+}
+
+/// `QUERY`: the same, and how many calls of each kind were made for it.
+pub(crate) fn with_calls(alloc: Global, ground: &Ground, text: &str) -> Mem<Option<String>> {
+    let at = Counted::over(&ground.at);
+    let Some(answer) = answer_over(alloc, &at, text)? else {
+        return Ok(None);
+    };
+    let calls = at.calls(alloc)?;
+    Ok(Some(format!(in alloc; "{answer} {calls}")?))
 }

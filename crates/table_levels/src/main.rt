@@ -1,9 +1,10 @@
 //! Reads rows from standard input and prints each with its answer: what the fields of a query show at the nodes of its root, or
-//! what the whole query answers, over a graph in memory. A row is the name of a table and its fields, with a tab between any two. The rows `schema` and `set` make
-//! the graph of the rows behind them.
+//! what the whole query answers, also with the calls that were made for it, over a graph in memory. A row is the name of a table and
+//! its fields, with a tab between any two. The rows `schema` and `set` make the graph of the rows behind them.
 #![tactic(auto)]
 
 mod asked;
+mod counted;
 mod ground;
 mod words;
 
@@ -51,6 +52,7 @@ fn answer(alloc: Global, ground: &mut Ground, table: &str, fields: &str) -> Mem<
         "within" => asked::within(alloc, ground, fields),
         "size" => asked::size(alloc, ground, fields),
         "answer" => asked::answer(alloc, ground, fields),
+        "counted" => asked::with_calls(alloc, ground, fields),
         _ => Ok(None),
     }
 }

@@ -1,4 +1,0 @@
-use Rattle.table_levels.proofs.asked.answer.Given as goal
-
-abbrev pub ghosts-plan_text : goal.ghosts-plan_text
-ghosts-plan_text a = record { name = a.blank.name; parts = a.blank.parts }
