@@ -3,6 +3,7 @@ ghost use Rattle.std.specs.Prelude.{◌≡◌, ℕ, ◌-◌, ◌≤◌, ◌<◌,
 ghost use Rattle.std.specs.Ordering.{nat_cmp};
 ghost use Rattle.dg_values.specs.Ascending.{has};
 ghost use Rattle.dg_recurse.specs.Near.{AreLeast};
+ghost use Rattle.dg_recurse.specs.Ways.{IsAtNone};
 ghost use Rattle.dg_level.specs.Looping.{PieceOf, planned_pieces, pieces_by};
 ghost use Rattle.dg_level.specs.Placing.{ArePlaced};
 ghost use Rattle.dg_level.specs.Reaching.{Reaches};
@@ -16,7 +17,7 @@ use crate::reaching::reached;
 use dg_check::{Field, Vars};
 use dg_graph::Snapshot;
 use dg_parse::QField;
-use dg_recurse::{Column, Reach, unfold};
+use dg_recurse::{Column, Reach, Way, unfold_along};
 use dg_sets::place_of;
 use dg_tree::TreeFault;
 use dg_uids::Uids;
@@ -26,8 +27,8 @@ use std::sync::ledger::Ledger;
 
 // Adds what is unfolded from a node, as a row.
 fn push_unfolded(
-    alloc: Global,
     rows: &mut Rows,
+    way: &mut Way,
     columns: &[Column],
     reach: &Reach,
     set: &Uids,
@@ -35,11 +36,13 @@ fn push_unfolded(
     node: u64,
 ) -> Result<(), TreeFault>
     requires begun { rows.old.begun ≡ [] }
+    requires way { IsAtNone columns.now way.old }
     requires some { 1 ≤ depth }
     requires most { depth ≤ 32 }
     requires reach { AreLeast reach.now columns.now }
     ensures ok { (pieces : Items PieceOf) (roots : Items ℕ) → ArePlaced set.now columns.now pieces → Reaches (pieces_by pieces) (depth - 1) roots set.now → has nat_cmp roots node ≡ true
         → OnOk result (rows.new.rows ≡ rows.old.rows ++ row_text (unfolded (pieces_by pieces) false (depth - 1) (node ∷ []) node) ∷ []) }
+    ensures way { OnOk result (IsAtNone columns.now way.new) }
     ensures begun { OnOk result (rows.new.begun ≡ []) }
     ensures limit { rows.new.limit ≡ rows.old.limit }
     ensures too_large { (pieces : Items PieceOf) (roots : Items ℕ) → ArePlaced set.now columns.now pieces → Reaches (pieces_by pieces) (depth - 1) roots set.now → has nat_cmp roots node ≡ true
@@ -48,7 +51,7 @@ fn push_unfolded(
     let Ok(place) = place_of(set.as_slice(), &node) else {
         return Ok(rows.close()?);
     };
-    let text = unfold(alloc, columns, reach, rows.room(), depth, place)?;
+    let text = unfold_along(way, columns, reach, rows.room(), depth, place)?;
     rows.mark(text.as_str())?;
     Ok(rows.close()?)
 }
@@ -72,8 +75,9 @@ fn walked(
         → IsErrOf result TreeFault.TooLarge → limit < total (map (λ n. row_text (unfolded (pieces_by pieces) false (depth - 1) (n ∷ []) n)) nodes.now) }
 {
     let mut rows = Rows::within(alloc, limit);
+    let mut way = Way::new(alloc);
     for node in nodes {
-        push_unfolded(alloc, &mut rows, columns, reach, set, depth, *node)?;
+        push_unfolded(&mut rows, &mut way, columns, reach, set, depth, *node)?;
     }
     Ok(rows)
 }

@@ -28,7 +28,7 @@ returns-in_err-text-clause-too_large c = λ pieces roots are reaches root err.
     let stands : StandsAt nat_cmp set node c.in-Ok.place = subst (λ (l : List ℕ). StandsAt nat_cmp l node c.in-Ok.place) c.as_slice.ensures.items c.in-Ok.ensures.there in
     let same = walked_same set c.as_slice.ensures.ascend c.args.columns.now pieces h steps roots reaches node c.in-Ok.place root stands in
     let row = row_text (unfolded (pieces_by pieces) false steps (node ∷ []) node) in
-    let over : c.room.result < length (row_text (unfolded (pieces_at h.placed) false steps (c.in-Ok.place ∷ []) c.in-Ok.place)) = c.unfold.ensures.too_large h.placed h.holds (search rules) in
+    let over : c.room.result < length (row_text (unfolded (pieces_at h.placed) false steps (c.in-Ok.place ∷ []) c.in-Ok.place)) = c.unfold_along.ensures.too_large h.placed h.holds (search rules) in
     omega (
       arith,
       over,

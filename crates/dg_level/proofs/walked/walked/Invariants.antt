@@ -1,4 +1,5 @@
 use Rattle.std.proofs.Common.{◌≡◌, ℕ, ◌-◌, false, List, [], ◌∷◌, map, take}
+use Rattle.dg_recurse.specs.Ways.{IsAtNone}
 use Rattle.dg_level.specs.Looping.{PieceOf, pieces_by}
 use Rattle.dg_level.specs.Placing.{ArePlaced}
 use Rattle.dg_level.specs.Reaching.{Reaches}
@@ -12,4 +13,5 @@ invariant-loop-node l =
     ((pieces : List PieceOf) → ArePlaced l.set l.columns pieces → Reaches (pieces_by pieces) (l.depth - 1) l.nodes l.set
     → l.rows.rows ≡ map (λ n. row_text (unfolded (pieces_by pieces) false (l.depth - 1) (n ∷ []) n)) (take l.node-index l.nodes))
     × (l.rows.begun ≡ [])
+    × IsAtNone l.columns l.way
     × (l.rows.limit ≡ l.limit)
