@@ -1,9 +1,9 @@
 -- The place of a predicate among copies.
-use Rattle.std.proofs.Common.{◌≡◌, ◌<◌, ◌≤◌, ◌+◌, ◌∙◌, sym, ap, arith, refl, ℕ, zero, suc, List, [], ◌∷◌, ◌++◌, Bool, true, false, cond, map, fold, length, get_or, take}
+use Rattle.std.proofs.Common.{◌≡◌, ◌<◌, ◌≤◌, ◌+◌, ◌∙◌, sym, ap, subst, arith, refl, ℕ, zero, suc, List, [], ◌∷◌, ◌++◌, Bool, true, false, cond, map, fold, length, get_or, slice_set, take}
 use Rattle.std.specs.Prelude.{◌==◌, Some, None, filter}
 use Rattle.std.specs.List.{AllByRecursion, AllWithin, insert}
 use Rattle.std.specs.List.Sorted.{IsPartitionedBy}
-use Rattle.std.proofs.lemmas.List.{take_more, map-append}
+use Rattle.std.proofs.lemmas.List.{take_more, map-append, get_or_default}
 use Rattle.std.proofs.lemmas.List.Sums.{fold-append}
 use Rattle.std.specs.declared.cmp.Ordering.{Ordering}
 use Rattle.std.specs.declared.cmp.Ordering.TheVariants.{Less, Equal, Greater}
@@ -12,12 +12,14 @@ use Rattle.dg_values.specs.Ascending.{Ascends, with_one}
 use Rattle.dg_values.specs.Order.{text_cmp}
 use Rattle.dg_sets.proofs.MadeOrders.{text_order}
 use Rattle.dg_sets.proofs.Sets.{back, forth, eq_turn}
+use Rattle.dg_keys.specs.Keys.{pred_of}
 use Rattle.dg_keys.specs.declared.record.Part.{Part}
+use Rattle.dg_keys.specs.declared.record.Record.{Record}
 use Rattle.dg_keys.specs.declared.record.Tablet.{Tablet}
 use Rattle.dg_list.specs.Lists.{newest_ts}
-use Rattle.dg_store.specs.Stores.{Lists, list_at}
+use Rattle.dg_store.specs.Stores.{Lists, list_at, after_part}
 use Rattle.dg_group.specs.declared.copied.Copied.{Copied}
-use Rattle.dg_group.specs.Groups.{copied_cmp, copy_of, is_copy_of, new_copy, with_fresh}
+use Rattle.dg_group.specs.Groups.{copied_cmp, copy_of, is_copy_of, copy_after, is_open_at, new_copy, with_fresh, IsOnly}
 use Rattle.dg_group.proofs.Lists.{all_at}
 
 abbrev pub below : List ℕ → Copied → Bool
@@ -131,3 +133,59 @@ fresh_more cs number ts i t lt is =
     ∙ ap (fold (with_one copied_cmp) cs) (sym (map-append new_copy a b))
     ∙ ap (with_fresh cs) (sym (filter_joined (λ t. t.group == number) (take i ts) (t ∷ [])))
     ∙ ap (λ (us : List Tablet). with_fresh cs (filter (λ t. t.group == number) us)) (sym one)
+
+-- ---- a record of one part
+
+others_same : (pred : List ℕ) (f : Copied → Copied) → ((c : Copied) → is_copy_of pred c ≡ false → f c ≡ c) → (cs : List Copied) → AllByRecursion (λ c. is_copy_of pred c ≡ false) cs → map f cs ≡ cs
+others_same pred f h [] a = refl
+others_same pred f h (c ∷ cs) a = λ i. h c a.0 i ∷ others_same pred f h cs a.1 i
+
+all_apart : (pred p : List ℕ) (cs : List Copied) → text_cmp pred p ≡ Equal → AllByRecursion (λ c. text_cmp p c.pred ≡ Less) cs → AllByRecursion (λ c. is_copy_of pred c ≡ false) cs
+all_apart pred p [] e a = tt
+all_apart pred p (c ∷ cs) e a = (ap is_eq (back text_cmp text_order pred c.pred (subst (λ q. text_cmp q c.pred ≡ Less) (sym (text_order.same pred p e)) a.0)), all_apart pred p cs e a.1)
+
+alone : (pred : List ℕ) (cs : List Copied) (i : ℕ) (d : Copied) → i < length cs → Ascends copied_cmp cs → AllWithin (λ y. below pred y ≡ true) cs 0 i → is_copy_of pred (get_or cs i d) ≡ true → (f : Copied → Copied) → ((c : Copied) → is_copy_of pred c ≡ false → f c ≡ c) → (x : Copied) → map f cs ≡ slice_set cs i (f (get_or cs i x))
+alone pred [] i d lt a b e f h x = absurd (omega arith)
+alone pred (y ∷ cs) zero d lt a b e f h x = λ j. f y ∷ others_same pred f h cs (all_apart pred y.pred cs (turned y.pred pred (equal (text_cmp y.pred pred) e)) a.0) j
+alone pred (y ∷ cs) (suc i) d lt a b e f h x =
+    λ j. h y (not_it (text_cmp y.pred pred) (b zero y (omega arith) (omega arith))) j ∷ alone pred cs i d (omega arith) a.1 (λ k z p q. b (suc k) z (omega arith) (omega arith)) e f h x j
+
+pub only : (pred : List ℕ) (cs : List Copied) (i : ℕ) (d : Copied) → i < length cs → Ascends copied_cmp cs → AllWithin (λ y. below pred y ≡ true) cs 0 i → is_copy_of pred (get_or cs i d) ≡ true → IsOnly pred cs i
+only pred cs i d lt a b e = record {
+  within = lt;
+  own = λ x. ap (is_copy_of pred) (get_or_default cs i x d lt) ∙ e;
+  others = alone pred cs i d lt a b e;
+}
+
+none_of : (pred : List ℕ) (cs : List Copied) → copy_of cs pred ≡ None → AllByRecursion (λ c. is_copy_of pred c ≡ false) cs
+none_of pred [] e = tt
+none_of pred (c ∷ cs) e = by (is_copy_of pred c) refl e (λ n. none_of pred cs n)
+  where
+    by : (v : Bool) → is_copy_of pred c ≡ v → cond v (Some c) (copy_of cs pred) ≡ None → (copy_of cs pred ≡ None → AllByRecursion (λ k. is_copy_of pred k ≡ false) cs) → AllByRecursion (λ k. is_copy_of pred k ≡ false) (c ∷ cs)
+    by true is n more = absurd (cc)
+    by false is n more = (is, more n)
+
+untouched : (rec : Record) (part : Part) → rec.parts ≡ part ∷ [] → (c : Copied) → is_copy_of (pred_of part.key) c ≡ false → copy_after rec c ≡ c
+untouched rec part e c n = rw (e, n) (by (is_open_at c.until rec.ts))
+  where
+    by : (v : Bool) → record { pred = c.pred; mark = c.mark; until = c.until; store = cond v c.store c.store } ≡ c
+    by true = refl
+    by false = refl
+
+-- a copy that is read still has one more layer, and one that isn't stays
+pub put_open : (rec : Record) (part : Part) (c : Copied) (store : Lists) → rec.parts ≡ part ∷ [] → is_copy_of (pred_of part.key) c ≡ true → is_open_at c.until rec.ts ≡ true → store ≡ after_part rec.ts c.store part → record { pred = c.pred; mark = c.mark; until = c.until; store = store } ≡ copy_after rec c
+put_open rec part c store e n o s = rw (e, n, o) (λ i. record { pred = c.pred; mark = c.mark; until = c.until; store = s i })
+
+pub put_closed : (rec : Record) (c : Copied) → is_open_at c.until rec.ts ≡ false → c ≡ copy_after rec c
+put_closed rec c o = rw o refl
+
+-- all copies after such a record, where one is of its predicate, and where none is
+pub one_after : (rec : Record) (part : Part) (cs : List Copied) (i : ℕ) (d : Copied) → rec.parts ≡ part ∷ [] → IsOnly (pred_of part.key) cs i → slice_set cs i (copy_after rec (get_or cs i d)) ≡ map (copy_after rec) cs
+one_after rec part cs i d e o = sym (o.others (copy_after rec) (untouched rec part e) d)
+
+pub none_after : (rec : Record) (part : Part) (cs : List Copied) → rec.parts ≡ part ∷ [] → copy_of cs (pred_of part.key) ≡ None → cs ≡ map (copy_after rec) cs
+none_after rec part cs e n = sym (others_same (pred_of part.key) (copy_after rec) (untouched rec part e) cs (none_of (pred_of part.key) cs n))
+
+-- and its lists are older
+pub newer_at : (ts : ℕ) (part : Part) (cs : List Copied) (i : ℕ) (c : Copied) → 0 < ts → i < length cs → get_or cs i c ≡ c → AllByRecursion (λ k. AllByRecursion (λ e. newest_ts e.1 < ts) k.store) cs → newest_ts (list_at part.key c.store) < ts
+newer_at ts part cs i c some lt is a = (all_newer ts c.store (part ∷ []) some (subst (λ (k : Copied). AllByRecursion (λ e. newest_ts e.1 < ts) k.store) is (each_at (λ k. AllByRecursion (λ e. newest_ts e.1 < ts) k.store) cs i c lt a))).0

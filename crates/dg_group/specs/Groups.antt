@@ -1,5 +1,5 @@
 -- A group as its copies of tablets, and what a record makes of it.
-use Rattle.std.specs.Prelude.{◌≡◌, ℕ, ◌<◌, ◌≤◌, Bool, true, ◌==◌, nat_le, if◌then◌else◌, List, [], ◌∷◌, Option, Some, None, map, filter, find, fold, length}
+use Rattle.std.specs.Prelude.{◌≡◌, ℕ, ◌<◌, ◌≤◌, Bool, true, ◌==◌, nat_le, if◌then◌else◌, false, List, [], ◌∷◌, Option, Some, None, map, filter, find, fold, length, get_or, slice_set}
 use Rattle.std.specs.List.{AllByRecursion, insert}
 use Rattle.std.specs.declared.cmp.Ordering.{Ordering}
 use Rattle.dg_values.specs.Order.{text_cmp, same_text}
@@ -29,6 +29,12 @@ is_copy_of pred copy = same_text copy.pred pred
 -- the copy of a predicate, where there is one
 abbrev pub copy_of : List Copied → List ℕ → Option Copied
 copy_of copies pred = find (is_copy_of pred) copies
+
+-- the copy of a predicate stands at this place, and no other is of it: what leaves the others as they are changes this one alone
+pub record IsOnly (pred : List ℕ) (copies : List Copied) (place : ℕ) : Type 0 where
+  pub within : place < length copies
+  pub own : (d : Copied) → is_copy_of pred (get_or copies place d) ≡ true
+  pub others : (f : Copied → Copied) → ((c : Copied) → is_copy_of pred c ≡ false → f c ≡ c) → (d : Copied) → map f copies ≡ slice_set copies place (f (get_or copies place d))
 
 -- a copy belongs at this place
 pub record Belongs (copies : List Copied) (copy : Copied) (place : ℕ) : Type 0 where

@@ -25,7 +25,7 @@ pub struct Copied {
 }
 
 // Whether the timestamp is one at which the copy is read still.
-fn is_open_at(until: Option<u64>, ts: u64) -> bool
+pub fn is_open_at(until: Option<u64>, ts: u64) -> bool
     ensures { result ≡ is_open_at until ts }
 {
     match until {
@@ -131,7 +131,7 @@ fn put_fresh(alloc: Global, copied: &mut Vec<Copied>, number: u32, tablet: &Tabl
 }
 
 // How many copies are of a predicate below this one.
-fn below(copies: &[Copied], pred: &str) -> usize
+pub fn below(copies: &[Copied], pred: &str) -> usize
     requires { Ascends copied_cmp copies.now }
     ensures within { result ≤ length copies.now }
     ensures point { IsPartitionPoint (λ copy. is_lt (text_cmp copy.pred pred.now) ≡ true) (λ copy. is_lt (text_cmp copy.pred pred.now) ≡ false) copies.now result }
@@ -166,7 +166,7 @@ fn put_new(copies: &mut Vec<Copied>, copy: Copied) -> Mem<()>
 }
 
 // Whether a copy is of a predicate.
-fn is_of(copy: &Copied, pred: &str) -> bool
+pub fn is_of(copy: &Copied, pred: &str) -> bool
     ensures { result ≡ is_copy_of pred.now copy.now }
 {
     copy.pred.as_str().cmp(pred).is_eq()

@@ -9,7 +9,8 @@ ghost use Rattle.dg_group.specs.Stands.{IsInStep};
 ghost use Rattle.dg_zero.specs.Exact.{AreExact};
 
 use crate::Pinned;
-use crate::copied::{Copied, all_after, find, shared, with_new};
+use crate::applying::put_record;
+use crate::copied::{Copied, find, shared};
 use dg_keys::Record;
 use dg_store::Store;
 use dg_values::{Mem, OutOfMemory};
@@ -50,15 +51,15 @@ impl GroupState {
     }
 
     /// Applies the next record: it is given the tablets that are new at this group, and each copy that is read still gets one
-    /// more layer for each part of its predicate. After an error nothing has changed.
+    /// more layer for each part of its predicate. A list of a record of one part is changed in place, where no pin shares it.
+    /// After an error nothing has changed.
     pub fn apply(&mut self, rec: &Record) -> Mem<()>
         requires next { CanApply self.old rec.now }
         ensures ok { OnOk result (self.new ≡ group_after self.old rec.now) }
         ensures err { OnErr result (self.new ≡ self.old) }
         ensures in_step { (n : ℕ) (history : List Entry) → IsLegal n history → AreExact history → IsInStep self.old history → next_record history self.old.last ≡ Some rec.now → OnOk result (IsInStep self.new history) }
     {
-        let copies = with_new(self.alloc, self.copies.as_slice(), self.number, rec)?;
-        self.copies = all_after(self.alloc, copies.as_slice(), rec)?;
+        put_record(self.alloc, &mut self.copies, self.number, rec)?;
         self.last = rec.ts;
         Ok(())
     }

@@ -5,6 +5,7 @@
 //! change.
 #![tactic(auto)]
 
+mod applying;
 mod copied;
 mod group;
 mod laws;

@@ -1,4 +1,5 @@
-//! Ordered maps in shared pages: a changed map leaves the old one as it was, and shares the pages that it didn't touch.
+//! Ordered maps in shared pages: a changed map leaves the old one as it was, and shares the pages that it didn't touch. One pair is
+//! put in place where no other map shares its page.
 #![tactic(auto)]
 
 mod edits;
@@ -7,6 +8,7 @@ mod merges;
 mod orders;
 mod pages;
 mod places;
+mod puts;
 mod tree;
 
 pub use pages::Pages;

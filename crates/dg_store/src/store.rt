@@ -1,5 +1,5 @@
 // Posting lists by their keys.
-ghost use Rattle.std.specs.Prelude.{[], ◌≡◌, ◌<◌, ◌≤◌, IfOk, IfSome, Some};
+ghost use Rattle.std.specs.Prelude.{[], ◌≡◌, ◌<◌, ◌≤◌, IfOk, OnOk, OnErr, IfSome, Some};
 ghost use Rattle.std.specs.Arc.{arc_value};
 ghost use Rattle.std.specs.Option.{option_map, option_copied};
 ghost use Rattle.std.specs.List.{AllByRecursion};
@@ -9,7 +9,7 @@ ghost use Rattle.dg_delta.specs.Ops.{op_cmp};
 ghost use Rattle.dg_keys.specs.Keys.{key_cmp, part_cmp};
 ghost use Rattle.dg_list.specs.Lists.{newest_ts, reading, with_base};
 ghost use Rattle.dg_pages.specs.Entries.{IsMap, with_entry, entry_from, entry_above, change_of};
-ghost use Rattle.dg_store.specs.Stores.{list_under, list_at, held_parts, with_part, after_parts, bases_of, after_bases};
+ghost use Rattle.dg_store.specs.Stores.{list_under, list_at, held_parts, with_part, after_part, after_parts, bases_of, after_bases};
 
 use crate::parts::{is_among, layer_of};
 use dg_base::Base;
@@ -115,6 +115,19 @@ impl Store {
         })
     }
 
+    /// Adds one more layer for a part. What no other store shares is changed in place. After an error the store is as it was.
+    /// The error is want of memory.
+    pub fn put_part(&mut self, alloc: Global, ts: u64, part: &Part) -> Mem<()>
+        requires ops { Ascends op_cmp part.now.ops }
+        requires newer { newest_ts (list_at part.now.key self.old) < ts }
+        ensures ok { OnOk result (self.new ≡ after_part ts self.old part.now) }
+        ensures err { OnErr result (self.new ≡ self.old) }
+    {
+        let list = self.longer(alloc, ts, part)?;
+        let key = self.shared_key(alloc, &part.key)?;
+        self.lists.put(alloc, key, list)
+    }
+
     /// The store with this base in the place of the base of a key's list and of its layers at or below a timestamp, where
     /// the base is that list at that timestamp. The error is want of memory.
     pub fn with_base(&self, alloc: Global, key: &Key, base: Arc<Base>, upto: u64) -> Mem<Store>
@@ -158,13 +171,22 @@ impl Store {
         requires newer { newest_ts (list_at part.now.key self.now) < ts }
         ensures { IfOk result (λ change. change_of change ≡ (part.now.key, Some (with_part ts self.now part.now))) }
     {
+        let list = self.longer(alloc, ts, part)?;
+        Ok((self.shared_key(alloc, &part.key)?, Some(list)))
+    }
+
+    // That list.
+    fn longer(&self, alloc: Global, ts: u64, part: &Part) -> Mem<Arc<PList>>
+        requires ops { Ascends op_cmp part.now.ops }
+        requires newer { newest_ts (list_at part.now.key self.now) < ts }
+        ensures { IfOk result (λ list. arc_value list ≡ with_part ts self.now part.now) }
+    {
         let layer = layer_of(alloc, ts, part)?;
         let list = match self.get(&part.key) {
             Some(list) => list.with_layer(alloc, layer)?,
             None => PList::empty(alloc)?.with_layer(alloc, layer)?,
         };
-        let list = Arc::new(alloc, list)?;
-        Ok((self.shared_key(alloc, &part.key)?, Some(list)))
+        Ok(Arc::new(alloc, list)?)
     }
 
     // The list of a key over another base.
