@@ -466,7 +466,7 @@ class Rule:
 
 def ruled(versions, v, command, rule):
     row(f"map@{v} {command} {rule.words}", f"version {len(versions)}")
-    puts = command in ("fill", "put")
+    puts = command in ("fill", "put", "set")
     made = dict(versions[v])
     for turn, key in enumerate(rule.keys, 1):
         made[key] = turn if puts else None
@@ -524,6 +524,43 @@ def emptied_maps():
             ruled(versions, len(versions) - 1, "take", Rule(n, first + half * step, step, n // 2))
             walk(versions)
             row("map page 0", "none")
+
+
+def maps_in_place():
+    head("Maps to which pairs are put in place, and the maps that they shared pages with. By Python's dicts.")
+    for n in (1, 63, 64, 65, 700):
+        row("map new", "version 0")
+        versions = [{}]
+        for first, step in ((0, 1), (n - 1, n - 1), (n // 2, 617)):
+            ruled(versions, 0, "set", Rule(n, first, step, n))
+            walk(versions)
+        for v, rule in ((1, Rule(2 * n, n - 1, 3, n)), (2, Rule(n, 0, 1, n)), (3, Rule(3 * n, 1, 617, n // 2 + 1))):
+            ruled(versions, v, "set", rule)
+            walk(versions)
+            ask_around(versions, rule.keys[0])
+            kept = versions[v]
+            row(f"map@{v} walk", f"{len(kept)} pairs, keys {sum(kept)}, values {sum(kept.values())}, in order")
+
+
+def parts_one_by_one():
+    global seed
+    kept, seed = seed, 31
+    head("Parts that are put one by one, each a timestamp later. By a dict of such sets.")
+    row("store new", "version 0")
+    versions = [({}, 0, 0)]
+    for step in range(12):
+        v = len(versions) - 1 if below(4) else below(len(versions))
+        made = versions[v]
+        ts = made[2] + 1 + below(3)
+        parts = [(one_of(made[0], len(KEYS)), some_ops(4)) for _ in range(1 + below(6))]
+        for later, (k, ops) in enumerate(parts):
+            made = with_record(made, ts + later, PREDICATES, {k: ops})
+        texts = [f"store@{v} each {ts}", *(f"{KEYS[k]} : {ops_words(ops)}" for k, ops in parts)]
+        row(" | ".join(texts), f"version {len(versions)}")
+        versions.append(made)
+        for v in (len(versions) - 1, below(len(versions))):
+            ask_store(v, versions[v])
+    seed = kept
 
 
 def parts_written(parts):
@@ -724,7 +761,7 @@ def bytes_of_keys():
         read_row(data, key_with(data))
 
 
-PAGED = (map_pages, emptied_maps, many_keys)
+PAGED = (map_pages, emptied_maps, many_keys, maps_in_place, parts_one_by_one)
 for make in PAGED + (bits, bases, operations, maps, lists, stores, keys, conflicts, large_maps, bytes_of_keys):
     make()
 for text, answer in rows:

@@ -46,6 +46,16 @@ pub(crate) fn print_map(
         last(&map, size),
     )?;
     let since = begin(rt, alloc)?;
+    let map = put_each(alloc, size)?;
+    print_row(
+        rt,
+        row,
+        "pairs, each put in place, shuffled",
+        size,
+        since,
+        last(&map, size),
+    )?;
+    let since = begin(rt, alloc)?;
     let made = changed(alloc, &map, size, false)?;
     print_row(rt, row, "pairs, 100 changed at once", TIMES, since, made)?;
     let since = begin(rt, alloc)?;
@@ -82,6 +92,16 @@ fn with_each(alloc: Global, size: u64) -> Result<Pages<u64, u64>, Fault> {
         let mut changes = Vec::new(alloc);
         changes.push(change(alloc, shuffled(turn, size))?)?;
         map = map.with_changes(alloc, changes)?;
+    }
+    Ok(map)
+}
+
+// The same map, of which each pair was put in place.
+fn put_each(alloc: Global, size: u64) -> Result<Pages<u64, u64>, Fault> {
+    let mut map = Pages::new(alloc)?;
+    for turn in 0..size {
+        let number = shuffled(turn, size);
+        map.put(alloc, Arc::new(alloc, number)?, Arc::new(alloc, number)?)?;
     }
     Ok(map)
 }

@@ -101,6 +101,18 @@ impl KeptStore {
         })
     }
 
+    // Adds a part, whose timestamp has to be newer than all there.
+    pub(crate) fn put_part(&mut self, alloc: Global, ts: u64, part: &Part) -> Answer<()>
+        requires { Ascends op_cmp part.now.ops }
+    {
+        if ts <= self.newest {
+            return Err(Fault::Unfit);
+        }
+        self.store.put_part(alloc, ts, part)?;
+        self.newest = ts;
+        Ok(())
+    }
+
     // The store with a base in the place of what a key's list has at or below a timestamp.
     pub(crate) fn with_base(&self, alloc: Global, key: &Key, upto: u64) -> Answer<KeptStore> {
         let list = self.list(alloc, key)?;

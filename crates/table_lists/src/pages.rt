@@ -118,6 +118,7 @@ pub(crate) fn made(
         "drop" => Ok(at_once(alloc, map, &rule, false)?),
         "put" => Ok(one_by_one(alloc, map, &rule, true)?),
         "take" => Ok(one_by_one(alloc, map, &rule, false)?),
+        "set" => Ok(in_place(alloc, map, &rule)?),
         _ => Err(Fault::Unfit),
     }
 }
@@ -158,12 +159,27 @@ fn one_by_one(
     Ok(made)
 }
 
+// The same puts, in place in a map that begins as an equal one.
+fn in_place(alloc: Global, map: &Pages<u64, u64>, rule: &Rule) -> Mem<Pages<u64, u64>> {
+    let mut made = map.share()?;
+    for turn in 0..rule.count {
+        let value = Arc::new(alloc, turn.wrapping_add(1))?;
+        made.put(alloc, rule.key(alloc, turn)?, value)?;
+    }
+    Ok(made)
+}
+
 impl Rule {
-    // The change of a turn: a key gets the number of its turn, from 1 on, or is taken out.
-    fn change(&self, alloc: Global, turn: u64, puts: bool) -> Mem<(Arc<u64>, Option<Arc<u64>>)> {
+    // The key of a turn.
+    fn key(&self, alloc: Global, turn: u64) -> Mem<Arc<u64>> {
         let place = self.first.wrapping_add(turn.wrapping_mul(self.step));
         let place = place.checked_rem(self.places).unwrap_or(0);
-        let key = Arc::new(alloc, place.wrapping_add(1).wrapping_mul(10))?;
+        Ok(Arc::new(alloc, place.wrapping_add(1).wrapping_mul(10))?)
+    }
+
+    // The change of a turn: a key gets the number of its turn, from 1 on, or is taken out.
+    fn change(&self, alloc: Global, turn: u64, puts: bool) -> Mem<(Arc<u64>, Option<Arc<u64>>)> {
+        let key = self.key(alloc, turn)?;
         let value = if puts {
             Some(Arc::new(alloc, turn.wrapping_add(1))?)
         } else {

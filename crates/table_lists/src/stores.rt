@@ -53,6 +53,7 @@ fn made(
             Ok(Some(store.with_base(alloc, &key, only_number(upto)?)?))
         }
         "parts" => Ok(Some(parted(alloc, store, words)?)),
+        "each" => Ok(Some(one_by_one(alloc, store, words)?)),
         "bases" => Ok(Some(rolled(alloc, store, words)?)),
         _ => Ok(None),
     }
@@ -72,6 +73,18 @@ fn parted(alloc: Global, store: &KeptStore, words: &[&str]) -> Answer<KeptStore>
     let (ts, words) = halves(words, "|")?;
     let rec = record(alloc, only_number(ts)?, words)?;
     store.with_parts(alloc, rec.ts, rec.parts.as_slice())
+}
+
+// The store after parts that are put one by one: the timestamp of the first, each other one's by one more, and the parts.
+fn one_by_one(alloc: Global, store: &KeptStore, words: &[&str]) -> Answer<KeptStore> {
+    let (ts, words) = halves(words, "|")?;
+    let first = only_number(ts)?;
+    let mut made = store.share()?;
+    for (place, words) in words.split(|word| *word == "|").enumerate() {
+        let part = part(alloc, words)?;
+        made.put_part(alloc, first.saturating_add(place as u64), &part)?;
+    }
+    Ok(made)
 }
 
 // The store after bases: a timestamp, and the keys of their lists, with `|` between.

@@ -1,11 +1,8 @@
-use Rattle.std.proofs.Common.{rules, ◌≡◌, ◌∙◌, sym, ap, subst, length, true, false, [], ◌∷◌, ◌++◌}
-use Rattle.std.specs.Prelude.{IfOk, OnErr}
+use Rattle.std.proofs.Common.{rules, ◌≡◌, ◌∙◌, sym, ap, subst, true, false, [], ◌∷◌, ◌++◌}
 use Rattle.std.specs.Arc.{arc_value}
 use Rattle.std.specs.Ordering.{is_lt}
-use Rattle.std.proofs.lemmas.List.{length-append}
 use Rattle.dg_pages.specs.Entries.{entries_of}
 use Rattle.dg_pages.specs.Nodes.{pages_of, is_left, IsNode, IsForked}
-use Rattle.dg_pages.specs.Paged.{joined, IsPaged}
 use Rattle.dg_pages.proofs.PutLemmas.{put_low, put_high, put_page, node_low, node_high, node_page, same_page, same_low, same_high}
 use Rattle.dg_pages.proofs.+put.Goals as goal
 use Rattle.dg_pages.proofs.+put.Goals.{tree::Tree::put-in-Page, tree::Tree::put-in-Fork+then-low, tree::Tree::put-in-Fork+else-low}

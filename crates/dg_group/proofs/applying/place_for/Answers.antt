@@ -1,8 +1,5 @@
-use Rattle.std.proofs.Common.{rules, ◌<◌, ◌≡◌, false, true, length, get_or, sym, ap, subst, ◌∙◌, arith, ℕ, List}
+use Rattle.std.proofs.Common.{rules, ◌<◌, ◌≡◌, false, true, length, get_or, sym, ap, ◌∙◌, arith}
 use Rattle.std.proofs.lemmas.List.{get_or_default}
-use Rattle.std.specs.List.Sorted.{IsPartitionPoint}
-use Rattle.std.specs.Ordering.{is_lt}
-use Rattle.dg_values.specs.Order.{text_cmp}
 use Rattle.dg_keys.specs.Keys.{pred_of}
 use Rattle.dg_group.specs.declared.copied.Copied.{Copied}
 use Rattle.dg_group.specs.Groups.{is_copy_of}

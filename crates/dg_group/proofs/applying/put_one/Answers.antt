@@ -1,12 +1,7 @@
-use Rattle.std.proofs.Common.{rules, ◌<◌, ◌≡◌, true, length, get_or, slice_set, map, sym, ap, subst, ◌∙◌, arith}
-use Rattle.std.specs.Prelude.{OnOk}
-use Rattle.std.specs.List.{AllByRecursion}
+use Rattle.std.proofs.Common.{rules, ◌≡◌, get_or, slice_set, sym, ap, ◌∙◌}
 use Rattle.std.proofs.lemmas.Result.{on_ok_weaker}
 use Rattle.dg_keys.specs.Keys.{pred_of}
-use Rattle.dg_list.specs.Lists.{newest_ts}
-use Rattle.dg_store.specs.Stores.{list_at}
-use Rattle.dg_group.specs.declared.copied.Copied.{Copied}
-use Rattle.dg_group.specs.Groups.{copy_after, is_copy_of, IsOnly}
+use Rattle.dg_group.specs.Groups.{copy_after, IsOnly}
 use Rattle.dg_group.proofs.CopyPlaces.{one_after, none_after, newer_at}
 use Rattle.dg_group.proofs.applying.put_one.Goals as goal
 

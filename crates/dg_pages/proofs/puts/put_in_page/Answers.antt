@@ -1,4 +1,4 @@
-use Rattle.std.proofs.Common.{rules, ◌≡◌, ◌∙◌, sym, ap, true, false}
+use Rattle.std.proofs.Common.{rules, ◌∙◌, ap}
 use Rattle.dg_pages.specs.Entries.{entries_of}
 use Rattle.dg_pages.proofs.PutLemmas.{set_is, insert_is}
 use Rattle.dg_pages.proofs.puts.put_in_page.Goals as goal

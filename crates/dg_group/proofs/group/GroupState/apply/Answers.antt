@@ -1,6 +1,4 @@
-use Rattle.std.proofs.Common.{rules, ◌≡◌, ◌<◌, ◌∙◌, sym, ap, subst, List, map}
-use Rattle.std.specs.List.{AllByRecursion}
-use Rattle.dg_list.specs.Lists.{newest_ts}
+use Rattle.std.proofs.Common.{◌≡◌, ◌∙◌, sym, ap, subst, List, map}
 use Rattle.dg_group.specs.declared.copied.Copied.{Copied}
 use Rattle.dg_group.specs.Groups.{Group, copy_after, fresh_at, with_fresh, group_after, CanApply, IsWhole}
 use Rattle.dg_group.specs.Stands.{IsInStep}
