@@ -167,7 +167,7 @@ class Statuses(InFolder):
         for what, status in (("a folder as the input", 1), ("no room for the output", 2), ("the words 'walk'", 3),
                              ("no verb", 4), ("an input that is too long", 5), ("the first load of 3,000 nodes", 0),
                              ("a product that is too large for memory", 0),
-                             ("ten thousand fields and ten thousand blocks", 0)):
+                             ("ten thousand fields, ten thousand blocks and forty thousand sums", 0)):
             self.assertIn(f"{what}: status 0, and not {status}; it said '', and wrote '", done.stdout)
         self.assertIn("statuses: 1 passed, ", done.stdout)
 

@@ -1,6 +1,6 @@
 -- The least and the greatest of values, and the sum of the numbers among them, value by value.
-use Rattle.std.proofs.Common.{◌≡◌, ℕ, ◌+◌, ◌<◌, ◌≤◌, ◌⊎◌, inl, inr, ℤ, pos, negsuc, ◌+ℤ◌, true, false, nat_eq, List, [], ◌∷◌, ◌++◌, map, flat_map, fold, take, length, get_or, refl, sym, ap, ◌∙◌, subst, arith, append-nil}
-use Rattle.std.specs.Prelude.{if◌then◌else◌, Option, Some, None, is_some, option_to_list, reverse, unsigned_abs}
+use Rattle.std.proofs.Common.{◌≡◌, ℕ, ◌+◌, ◌<◌, ◌≤◌, ◌⊎◌, inl, inr, ℤ, pos, negsuc, ◌+ℤ◌, true, false, List, [], ◌∷◌, ◌++◌, flat_map, fold, take, length, get_or, refl, sym, ap, ◌∙◌, subst, arith, append-nil}
+use Rattle.std.specs.Prelude.{if◌then◌else◌, Option, Some, is_some, reverse, unsigned_abs}
 use Rattle.std.specs.Option.{option_or}
 use Rattle.std.specs.Fmt.{signed_decimal}
 use Rattle.std.specs.declared.cmp.Ordering.{Ordering}
@@ -24,6 +24,8 @@ use Rattle.dg_tree.specs.declared.tree.Tree.TheOpen.{Tree-F}
 use Rattle.dg_tree.specs.declared.tree.Tree.TheFolds.{fold-roll-Tree}
 use Rattle.dg_tree.specs.Texts.{text_of_tree, text_of_field, tree_text}
 use Rattle.dg_level.specs.Aggregates.{number_in, sum_of, aggregate}
+use Rattle.dg_level.specs.declared.folds.Found.{Found}
+use Rattle.dg_level.specs.Folded.{found_in}
 use Rattle.dg_level.specs.Lists.{first_value}
 use Rattle.dg_level.specs.PlannedAggregates.{lesser, greater, text_where}
 
@@ -168,3 +170,14 @@ sum_text [] some text is = absurd (omega (arith, some))
 sum_text (value ∷ more) some text is =
     let n = sum_of (flat_map number_in (value ∷ more)) in
     is ∙ sym (ap tree_text (sym (trees.rolls-Int n)) ∙ fold-roll-Tree (List ℕ) (List ℕ) text_of_tree text_of_field (Tree-F.Int n))
+
+-- ---- what was found
+
+-- there are values where something is the least of them, and none where nothing is
+pub some_values : (all : List Value) (found : Found) → found ≡ found_in all → is_some found.least ≡ true → 0 < length all
+some_values [] found is some = absurd (false≢true (sym (ap (λ (f : Found). is_some f.least) is) ∙ some))
+some_values (value ∷ more) found is some = omega arith
+
+pub no_values : (all : List Value) (found : Found) → found ≡ found_in all → is_some found.least ≡ false → all ≡ []
+no_values [] found is none = refl
+no_values (value ∷ more) found is none = absurd (false≢true (sym none ∙ ap (λ (f : Found). is_some f.least) is ∙ some_found ops.Min (value ∷ more) (omega arith)))

@@ -1,6 +1,6 @@
 -- What a plan keeps of aggregates is what their text says, and what blocks without a function show, field by field.
-use Rattle.std.proofs.Common.{◌≡◌, ℕ, zero, suc, ◌+◌, ◌<◌, ◌≤◌, Bool, true, false, nat_eq, List, [], ◌∷◌, ◌++◌, map, flat_map, take, drop, length, get_or, codes, refl, sym, ap, ◌∙◌, subst, arith, append-nil, append_assoc, take-append-drop, length-append}
-use Rattle.std.specs.Prelude.{if◌then◌else◌, Option, Some, None, is_some, option_map, option_to_list}
+use Rattle.std.proofs.Common.{◌≡◌, ℕ, zero, suc, ◌+◌, ◌<◌, Bool, true, false, nat_eq, List, [], ◌∷◌, ◌++◌, map, flat_map, take, drop, length, get_or, codes, refl, sym, ap, ◌∙◌, subst, arith, append-nil, append_assoc, take-append-drop, length-append}
+use Rattle.std.specs.Prelude.{if◌then◌else◌, Option, Some, None, is_some, option_map}
 use Rattle.std.proofs.lemmas.Bool.{true≢false, false≢true}
 use Rattle.std.proofs.lemmas.List.{take_more}
 use Rattle.std.proofs.lemmas.List.Concat.{flat_map-append}
@@ -22,11 +22,9 @@ use Rattle.dg_check.specs.declared.vars.Variable.{Variable}
 use Rattle.dg_check.specs.Parts.{IsItemOf, uid, count_uid, count, val, agg, edge, AreFieldsOf, no_field, more_fields}
 use Rattle.dg_check.specs.Plans.{place_of}
 use Rattle.dg_check.specs.Variables.{Definition}
-use Rattle.dg_tree.specs.declared.tree.Field.{Field}
 use Rattle.dg_tree.specs.declared.tree.Tree.{Tree}
 use Rattle.dg_tree.specs.declared.tree.Tree.TheVariants as trees
-use Rattle.dg_tree.specs.Texts.{key_text, tree_text, field_text, with_commas}
-use Rattle.dg_level.specs.declared.aggregates.Aggregate.{Aggregate}
+use Rattle.dg_tree.specs.Texts.{tree_text, field_text, with_commas}
 use Rattle.dg_level.specs.Aggregates.{values_of, number_in, sum_of, is_beyond, aggregate, objects_of_item, beyond_in}
 use Rattle.dg_level.specs.Answers.{value_tree}
 use Rattle.dg_level.specs.Meaning.{first_name}

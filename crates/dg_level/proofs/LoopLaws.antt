@@ -1,5 +1,5 @@
 -- What is fetched for fields of a recursion.
-use Rattle.std.proofs.Common.{◌≡◌, ℕ, ◌≤◌, Bool, true, false, List, [], ◌∷◌, ◌++◌, map, take, length, refl, sym, ap, ◌∙◌, true≢false}
+use Rattle.std.proofs.Common.{◌≡◌, ℕ, Bool, true, false, List, [], ◌++◌, map, take, refl, sym, ap, ◌∙◌, true≢false}
 use Rattle.std.specs.Prelude.{Option, Some, None, option_map}
 use Rattle.dg_schema.specs.declared.definition.PredDef.{PredDef}
 use Rattle.dg_schema.specs.Definitions.{definition_of}
@@ -24,13 +24,13 @@ use Rattle.dg_tree.specs.Texts.{key_text, field_text}
 use Rattle.dg_level.specs.declared.looped.Lists.{Lists}
 use Rattle.dg_level.specs.declared.sorts.Sort.{Sort}
 use Rattle.dg_level.specs.declared.sorts.Sort.TheVariants as sorts
-use Rattle.dg_level.specs.Shown.{sort_of, under}
-use Rattle.dg_level.specs.Planned.{value_kept, is_single, cut_to, planned_list, list_by}
-use Rattle.dg_level.specs.Columns.{FieldsOf, TreesOf}
+use Rattle.dg_level.specs.Shown.{sort_of}
+use Rattle.dg_level.specs.Planned.{value_kept, is_single, planned_list, list_by}
+use Rattle.dg_level.specs.Columns.{FieldsOf}
 use Rattle.dg_level.specs.Levels.{leads_to_nodes, bare_trees}
 use Rattle.dg_level.specs.Rows.{row_text, objects_of, array_of}
 use Rattle.dg_level.specs.Recursions.{single_of}
-use Rattle.dg_level.specs.Looping.{own_by, own_trees, Leading, leads_as, leads_kept, leads_by, leads_of, piece_from, piece_fields, lists_over, lists_as, IsShort}
+use Rattle.dg_level.specs.Looping.{own_by, own_trees, Leading, leads_as, leads_kept, leads_by, leads_of, piece_fields, lists_over, lists_as, IsShort}
 use Rattle.dg_level.specs.Unfolding.{edge}
 use Rattle.dg_level.proofs.ShownLaws.{cut_short, in_array, by_itself}
 

@@ -1,6 +1,6 @@
 -- What is unfolded by the plan is what is unfolded by the text.
-use Rattle.std.proofs.Common.{◌≡◌, ℕ, zero, suc, ◌-◌, Bool, true, false, List, [], ◌∷◌, ◌++◌, map, flat_map, refl, sym, ap, ◌∙◌, true≢false}
-use Rattle.std.specs.Prelude.{Option, Some, None, option_to_list}
+use Rattle.std.proofs.Common.{◌≡◌, ℕ, ◌-◌, true, false, List, [], ◌∷◌, map, refl, sym, ap, ◌∙◌}
+use Rattle.std.specs.Prelude.{option_to_list}
 use Rattle.dg_schema.specs.declared.definition.PredDef.{PredDef}
 use Rattle.dg_schema.specs.Definitions.{definition_of}
 use Rattle.dg_graph.specs.declared.change.Triple.{Triple}
@@ -26,7 +26,6 @@ use Rattle.dg_level.specs.Lists.{children}
 use Rattle.dg_level.specs.Shown.{sort_of, under, cascades, ShownItem, fields_at}
 use Rattle.dg_level.specs.Planned.{value_kept, list_by}
 use Rattle.dg_level.specs.Keys.{all_count_keys}
-use Rattle.dg_level.specs.Columns.{TreesOf}
 use Rattle.dg_level.specs.Levels.{leads_to_nodes, own_shown, bare_trees}
 use Rattle.dg_level.specs.Recursions.{single_of, piece_of, item_piece, piece_at, pieces_at, recursed_at}
 use Rattle.dg_level.specs.Looping.{own_by, own_trees, leads_as, leads_kept, leads_by, piece_from, planned_piece, planned_pieces, pieces_by}

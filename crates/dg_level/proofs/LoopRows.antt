@@ -1,7 +1,6 @@
 -- Rows by what is fetched, and what the level below has at most.
 use Rattle.std.proofs.Common.{◌≡◌, ℕ, zero, suc, ◌+◌, ◌<◌, ◌≤◌, Bool, true, false, List, [], ◌∷◌, ◌++◌, map, flat_map, take, length, get_or, refl, sym, ap, subst, ◌∙◌, arith, length-append, true≢false}
 use Rattle.std.proofs.lemmas.List.{map-append}
-use Rattle.std.proofs.lemmas.List.Concat.{flat_map-append}
 use Rattle.std.proofs.lemmas.List.Folds.{flat_map-map}
 use Rattle.std.proofs.lemmas.List.Sums.{sum_by-cons}
 use Rattle.std.specs.Prelude.{◌||◌, Option, Some, None, option_map, slice_get, sum_by}
@@ -14,11 +13,10 @@ use Rattle.dg_funcs.proofs.PassLaws.{or_true}
 use Rattle.dg_graph.specs.declared.change.Triple.{Triple}
 use Rattle.dg_check.specs.declared.vars.Variable.{Variable}
 use Rattle.dg_tree.specs.declared.tree.Tree.{Tree}
-use Rattle.dg_tree.specs.declared.tree.Field.{Field}
 use Rattle.dg_tree.specs.Texts.{tree_text, field_text}
 use Rattle.dg_level.specs.declared.looped.Fetched.{Fetched}
 use Rattle.dg_level.specs.declared.looped.Lists.{Lists}
-use Rattle.dg_level.specs.Rows.{total, row_text, with_fields, AreOfLevel}
+use Rattle.dg_level.specs.Rows.{total, row_text, with_fields}
 use Rattle.dg_level.specs.Shown.{under, node_of}
 use Rattle.dg_level.specs.Columns.{FieldsOf, TreesOf, shown_by}
 use Rattle.dg_level.specs.Looping.{PieceOf, Leading, piece_from, piece_fields, fields_by, level_fields, nodes_in, lists_over, lists_as, IsShort, IsFetched, AreFetched, nodes_of_lists, nodes_fetched, AreBelow}

@@ -1,7 +1,7 @@
 -- Unfolding where nodes come again, one level after another.
-use Rattle.std.proofs.Common.{◌≡◌, ℕ, zero, suc, ◌+◌, ◌-◌, ◌<◌, Bool, true, false, List, [], ◌∷◌, ◌++◌, map, flat_map, refl, sym, ap, ◌∙◌, arith}
+use Rattle.std.proofs.Common.{◌≡◌, ℕ, zero, suc, ◌-◌, ◌<◌, Bool, true, false, List, [], ◌∷◌, ◌++◌, map, flat_map, refl, sym, ap, ◌∙◌, arith}
 use Rattle.std.proofs.lemmas.List.Folds.{flat_map-map}
-use Rattle.std.specs.Prelude.{Option, Some, None}
+use Rattle.std.specs.Prelude.{Some, None}
 use Rattle.dg_schema.specs.declared.definition.PredDef.{PredDef}
 use Rattle.dg_schema.specs.Definitions.{definition_of}
 use Rattle.dg_graph.specs.declared.change.Triple.{Triple}
@@ -18,18 +18,17 @@ use Rattle.dg_check.specs.declared.parts.Item.TheOpen.{Item-F}
 use Rattle.dg_check.specs.declared.parts.Item.TheViews.{out-Item}
 use Rattle.dg_check.specs.declared.vars.Variable.{Variable}
 use Rattle.dg_tree.specs.declared.tree.Tree.{Tree}
-use Rattle.dg_tree.specs.declared.tree.Field.{Field}
 use Rattle.dg_level.specs.declared.looped.Fetched.{Fetched}
 use Rattle.dg_level.specs.declared.sorts.Sort.{Sort}
 use Rattle.dg_level.specs.declared.sorts.Sort.TheVariants as sorts
 use Rattle.dg_level.specs.Answers.{shown}
 use Rattle.dg_level.specs.Shown.{sort_of, under, node_of}
 use Rattle.dg_level.specs.Planned.{list_by}
-use Rattle.dg_level.specs.Columns.{FieldsOf, TreesOf, shown_by}
+use Rattle.dg_level.specs.Columns.{FieldsOf, TreesOf}
 use Rattle.dg_level.specs.Levels.{own_shown, bare_trees}
 use Rattle.dg_level.specs.Recursions.{single_of}
-use Rattle.dg_level.specs.Looping.{PieceOf, Leading, own_by, own_trees, leads_as, leads_kept, leads_by, leads_of, piece_from, planned_piece, planned_pieces, pieces_by, piece_fields, fields_by, level_fields, nodes_in, AreFetched, nodes_fetched}
-use Rattle.dg_level.specs.Unfolding.{Piece, own, edge, edge_trees, piece_shown, unfolded}
+use Rattle.dg_level.specs.Looping.{PieceOf, Leading, own_by, own_trees, leads_as, leads_kept, leads_by, piece_from, planned_piece, planned_pieces, pieces_by, piece_fields, fields_by, level_fields, nodes_in, AreFetched, nodes_fetched}
+use Rattle.dg_level.specs.Unfolding.{Piece, edge_trees, piece_shown, unfolded}
 use Rattle.dg_level.proofs.LoopRows.{nodes_are}
 
 -- ---- the path doesn't matter

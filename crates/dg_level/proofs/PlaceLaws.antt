@@ -1,5 +1,5 @@
 -- Columns over a set of nodes, by their places in it.
-use Rattle.std.proofs.Common.{◌≡◌, ℕ, zero, suc, ◌+◌, ◌<◌, ◌≤◌, Bool, true, List, [], ◌∷◌, ◌++◌, map, take, length, get_or, Vec, Global, refl, sym, ap, subst, ◌∙◌, arith}
+use Rattle.std.proofs.Common.{◌≡◌, ℕ, zero, suc, ◌<◌, List, [], ◌∷◌, ◌++◌, map, length, get_or, Vec, Global, refl, sym, ap, ◌∙◌, arith}
 use Rattle.std.specs.Prelude.{Option, Some, None, option_map, slice_get, filter}
 use Rattle.std.specs.Ordering.{nat_cmp}
 use Rattle.dg_values.specs.Ascending.{has}
@@ -7,18 +7,15 @@ use Rattle.dg_graph.specs.declared.change.Triple.{Triple}
 use Rattle.dg_check.specs.declared.vars.Variable.{Variable}
 use Rattle.dg_recurse.specs.declared.column.Column.{Column}
 use Rattle.dg_recurse.specs.declared.column.Column.TheVariants as columns
-use Rattle.dg_recurse.specs.Laws.{renamed}
 use Rattle.dg_tree.specs.declared.tree.Field.{Field}
-use Rattle.dg_tree.specs.Texts.{key_text}
 use Rattle.dg_level.specs.declared.looped.Fetched.{Fetched}
 use Rattle.dg_level.specs.declared.looped.Lists.{Lists}
 use Rattle.dg_level.specs.Rows.{row_text}
 use Rattle.dg_level.specs.Shown.{under}
-use Rattle.dg_level.specs.Columns.{TreesOf}
-use Rattle.dg_level.specs.Looping.{PieceOf, Leading, piece_from, lists_over, lists_as, IsFetched}
+use Rattle.dg_level.specs.Looping.{PieceOf, piece_from, lists_as, IsFetched}
 use Rattle.dg_level.specs.Placing.{name_of, ArePlaces, AllPlaces, IsPlaced, ArePlaced}
 use Rattle.dg_level.specs.Reaching.{piece_within}
-use Rattle.dg_level.specs.Unfolding.{Piece, own, edge}
+use Rattle.dg_level.specs.Unfolding.{own, edge}
 use Rattle.dg_level.proofs.LoopLaws.{no_leads, some_leads}
 
 -- ---- lists

@@ -6,7 +6,6 @@ use Rattle.dg_graph.specs.declared.change.Triple.{Triple}
 use Rattle.dg_graph.specs.Graphs.{IsLawful}
 use Rattle.dg_parse.specs.declared.query.Query.{Query}
 use Rattle.dg_check.specs.declared.plan.Plan.{Plan}
-use Rattle.dg_check.specs.declared.vars.Variable.{Variable}
 use Rattle.dg_check.specs.Faults.{first_again}
 use Rattle.dg_check.specs.Outcomes.{IsPlanOf}
 use Rattle.dg_funcs.specs.Laws.{AreOfKind, FiltersMeanTheirTexts, RootsMeanTheirTexts}

@@ -1,8 +1,7 @@
 -- What is unfolded by places is what is unfolded by nodes.
-use Rattle.std.proofs.Common.{◌≡◌, ◌≢◌, ℕ, zero, suc, ◌+◌, ◌<◌, ◌≤◌, ◌⊎◌, inl, inr, Bool, true, false, List, [], ◌∷◌, ◌++◌, map, length, get_or, refl, sym, ap, ◌∙◌, arith}
-use Rattle.std.specs.Prelude.{Option, Some, None, slice_get}
+use Rattle.std.proofs.Common.{◌≡◌, ℕ, zero, suc, ◌<◌, ◌⊎◌, inl, inr, true, false, List, [], ◌∷◌, map, length, get_or, refl, sym, ap, ◌∙◌, arith}
+use Rattle.std.specs.Prelude.{Some, slice_get}
 use Rattle.std.specs.List.{AllByRecursion}
-use Rattle.std.specs.declared.cmp.Ordering.{Ordering}
 use Rattle.std.specs.declared.cmp.Ordering.TheVariants.{Less, Equal}
 use Rattle.std.specs.Ordering.{nat_cmp, is_eq}
 use Rattle.dg_values.specs.Ascending.{Ascends, has}
@@ -15,9 +14,9 @@ use Rattle.dg_recurse.specs.Columns.{AreColumnsOf, pieces_at}
 use Rattle.dg_recurse.specs.Laws.{renamed, LeadsBelow}
 use Rattle.dg_recurse.proofs.NameLaws.{names_dont_matter}
 use Rattle.dg_level.specs.Looping.{PieceOf, pieces_by}
-use Rattle.dg_level.specs.Placing.{name_of, IsPlaced, ArePlaced}
-use Rattle.dg_level.specs.Reaching.{within_steps, piece_within, pieces_within, Reaches}
-use Rattle.dg_level.specs.Unfolding.{Piece, unfolded}
+use Rattle.dg_level.specs.Placing.{name_of, ArePlaced}
+use Rattle.dg_level.specs.Reaching.{within_steps, pieces_within, Reaches}
+use Rattle.dg_level.specs.Unfolding.{unfolded}
 use Rattle.dg_level.proofs.ReachLaws.{first_in, reached_alone, steps_lead, steps_within}
 
 -- ---- the pieces that columns hold

@@ -7,6 +7,7 @@ pub mod OrderKeys
 pub mod Faults
 pub mod Aggregates
 pub mod PlannedAggregates
+pub mod Folded
 pub mod Blocks
 pub mod PlannedBlocks
 pub mod Given

@@ -1,5 +1,5 @@
 -- What is fetched for a recursion of the nodes of a level, by what a plan keeps of its fields.
-use Rattle.std.specs.Prelude.{◌≡◌, ℕ, ◌≤◌, pos, ⊤, Bool, true, false, if◌then◌else◌, List, [], ◌∷◌, Option, Some, None, option_map, option_to_list, length, map, flat_map}
+use Rattle.std.specs.Prelude.{◌≡◌, ℕ, ◌≤◌, pos, ⊤, Bool, true, if◌then◌else◌, List, [], ◌∷◌, Option, Some, None, option_map, length, map, flat_map}
 use Rattle.std.specs.List.{AllByRecursion}
 use Rattle.dg_text.specs.Spelling.{uid_text}
 use Rattle.dg_schema.specs.declared.definition.PredDef.{PredDef}
@@ -18,7 +18,6 @@ use Rattle.dg_check.specs.declared.parts.Item.TheOpen.{Item-F}
 use Rattle.dg_check.specs.declared.parts.Item.TheViews.{out-Item}
 use Rattle.dg_check.specs.declared.vars.Variable.{Variable}
 use Rattle.dg_funcs.specs.Truth.{count_along}
-use Rattle.dg_tree.specs.declared.tree.Tree.{Tree}
 use Rattle.dg_tree.specs.declared.tree.Tree.TheVariants as trees
 use Rattle.dg_tree.specs.declared.tree.Field.{Field}
 use Rattle.dg_tree.specs.Texts.{key_text}

@@ -19,6 +19,7 @@ mod flat_room;
 mod flat_rows;
 mod flat_writing;
 mod flats;
+mod folds;
 mod given;
 mod keys;
 mod laws;

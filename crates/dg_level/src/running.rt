@@ -17,6 +17,7 @@ ghost use Rattle.dg_level.specs.Shown.{under};
 use crate::aggregates::{push_aggregates, sum_beyond};
 use crate::arrays::comma_behind;
 use crate::blocks::{array_shown, left_of, nodes_of};
+use crate::folds::Folds;
 use crate::variables::variables_in_order;
 use crate::{RunFault, any_order_serves};
 use dg_check::{Parts, Plan, Vars};
@@ -49,14 +50,19 @@ fn variables_of<S: Snapshot, L: Ledger>(
 }
 
 // Refuses a plan with a sum that is no number of 64 bits.
-fn test_sums(alloc: Global, blocks: &[QBlock], kept: &[Parts], vars: &Vars) -> Result<(), RunFault>
+fn test_sums(
+    alloc: Global,
+    blocks: &[QBlock],
+    kept: &[Parts],
+    folds: &Folds,
+) -> Result<(), RunFault>
     ensures ok { (schema : List PredDef) (ds : List Definition) → AreBlocksOf schema ds blocks.now kept.now
-        → IfOk result (λ _. first_name (sums_beyond ds vars.now.variables blocks.now) ≡ None) }
+        → IfOk result (λ _. first_name (sums_beyond ds folds.now blocks.now) ≡ None) }
     ensures overflow { (schema : List PredDef) (ds : List Definition) → AreBlocksOf schema ds blocks.now kept.now
-        → (x : List ℕ) → IsErrOf result (RunFault.SumOverflow x) → first_name (sums_beyond ds vars.now.variables blocks.now) ≡ Some x }
+        → (x : List ℕ) → IsErrOf result (RunFault.SumOverflow x) → first_name (sums_beyond ds folds.now blocks.now) ≡ Some x }
     ensures fits { IsErrOf result RunFault.TooLarge → ⊥ }
 {
-    match sum_beyond(blocks, kept, vars) {
+    match sum_beyond(blocks, kept, folds) {
         None => Ok(()),
         Some(name) => {
             let name = name.copy(alloc)?;
@@ -99,16 +105,16 @@ fn push_values(
     out: &mut AnswerText,
     block: &QBlock,
     kept: &Parts,
-    vars: &Vars,
+    folds: &Folds,
 ) -> Result<(), TreeFault>
     ensures ok { (schema : List PredDef) (ds : List Definition) → IsBlockOf schema ds block.now kept.now
-        → OnOk result (out.new ≡ out.old ++ field_text (under block.now.name (trees.Array (aggregates_shown ds vars.now.variables block.now.fields)))) }
+        → OnOk result (out.new ≡ out.old ++ field_text (under block.now.name (trees.Array (aggregates_shown ds folds.now block.now.fields)))) }
     ensures too_large { (schema : List PredDef) (ds : List Definition) → IsBlockOf schema ds block.now kept.now
-        → IsErrOf result TreeFault.TooLarge → 16777216 < length (out.old ++ field_text (under block.now.name (trees.Array (aggregates_shown ds vars.now.variables block.now.fields)))) }
+        → IsErrOf result TreeFault.TooLarge → 16777216 < length (out.old ++ field_text (under block.now.name (trees.Array (aggregates_shown ds folds.now block.now.fields)))) }
 {
     out.key(block.name.as_str())?;
     let fields = block.fields.as_slice();
-    push_aggregates(alloc, out, fields, kept.fields.as_slice(), vars)
+    push_aggregates(alloc, out, fields, kept.fields.as_slice(), folds)
 }
 
 // Adds what a block shows, under its name.
@@ -119,15 +125,17 @@ fn push_shown<S: Snapshot, L: Ledger>(
     block: &QBlock,
     kept: &Parts,
     vars: &Vars,
+    folds: &Folds,
     reads: &mut Steps<L>,
 ) -> Result<(), TreeFault>
+    requires folds { folds.now ≡ vars.now.variables }
     ensures ok { (ds : List Definition) → IsLawful (S.declared snap.now) (S.graph snap.now) → AreOfKind ds vars.now.variables → IsBlockOf (S.declared snap.now) ds block.now kept.now
         → OnOk result (out.new ≡ out.old ++ field_text (block_tree (S.declared snap.now) (S.graph snap.now) ds vars.now.variables block.now)) }
     ensures too_large { (ds : List Definition) → IsLawful (S.declared snap.now) (S.graph snap.now) → AreOfKind ds vars.now.variables → IsBlockOf (S.declared snap.now) ds block.now kept.now
         → IsErrOf result TreeFault.TooLarge → 16777216 < length (out.old ++ field_text (block_tree (S.declared snap.now) (S.graph snap.now) ds vars.now.variables block.now)) }
 {
     if block.func.is_none() {
-        return push_values(alloc, out, block, kept, vars);
+        return push_values(alloc, out, block, kept, folds);
     }
     let list = nodes_of(alloc, snap, block, kept, vars, reads)?;
     let list = left_of(alloc, snap, block, kept, vars, list, reads)?;
@@ -143,8 +151,10 @@ fn push_block<S: Snapshot, L: Ledger>(
     block: &QBlock,
     kept: &Parts,
     vars: &Vars,
+    folds: &Folds,
     reads: &mut Steps<L>,
 ) -> Result<bool, TreeFault>
+    requires folds { folds.now ≡ vars.now.variables }
     ensures ok { (ds : List Definition) → IsLawful (S.declared snap.now) (S.graph snap.now) → AreOfKind ds vars.now.variables → IsBlockOf (S.declared snap.now) ds block.now kept.now
         → OnOk result (out.new ≡ out.old ++ parts_text wrote (map field_text (block_shown (S.declared snap.now) (S.graph snap.now) ds vars.now.variables block.now))) }
     ensures wrote { (ds : List Definition) → IfOk result (λ w. w ≡ has_parts wrote (map field_text (block_shown (S.declared snap.now) (S.graph snap.now) ds vars.now.variables block.now))) }
@@ -155,7 +165,7 @@ fn push_block<S: Snapshot, L: Ledger>(
         return Ok(wrote);
     }
     out.mark(comma_behind(wrote))?;
-    push_shown(alloc, snap, out, block, kept, vars, reads)?;
+    push_shown(alloc, snap, out, block, kept, vars, folds, reads)?;
     Ok(true)
 }
 
@@ -167,8 +177,10 @@ fn push_blocks<S: Snapshot, L: Ledger>(
     blocks: &[QBlock],
     kept: &[Parts],
     vars: &Vars,
+    folds: &Folds,
     reads: &mut Steps<L>,
 ) -> Result<(), TreeFault>
+    requires folds { folds.now ≡ vars.now.variables }
     requires alike { length blocks.now ≡ length kept.now }
     ensures ok { (ds : List Definition) → IsLawful (S.declared snap.now) (S.graph snap.now) → AreOfKind ds vars.now.variables → AreBlocksOf (S.declared snap.now) ds blocks.now kept.now
         → OnOk result (out.new ≡ out.old ++ parts_text false (map field_text (blocks_shown (S.declared snap.now) (S.graph snap.now) ds vars.now.variables blocks.now))) }
@@ -177,7 +189,9 @@ fn push_blocks<S: Snapshot, L: Ledger>(
 {
     let mut wrote = false;
     for (at, block) in blocks.iter().enumerate() {
-        wrote = push_block(alloc, snap, out, wrote, block, &kept[at], vars, reads)?;
+        wrote = push_block(
+            alloc, snap, out, wrote, block, &kept[at], vars, folds, reads,
+        )?;
     }
     Ok(())
 }
@@ -189,8 +203,10 @@ fn answer_of_blocks<S: Snapshot, L: Ledger>(
     blocks: &[QBlock],
     kept: &[Parts],
     vars: &Vars,
+    folds: &Folds,
     reads: &mut Steps<L>,
 ) -> Result<String, TreeFault>
+    requires folds { folds.now ≡ vars.now.variables }
     requires alike { length blocks.now ≡ length kept.now }
     ensures text { (ds : List Definition) → IsLawful (S.declared snap.now) (S.graph snap.now) → AreOfKind ds vars.now.variables → AreBlocksOf (S.declared snap.now) ds blocks.now kept.now
         → IfOk result (λ text. string_bytes text ≡ answer_text (blocks_shown (S.declared snap.now) (S.graph snap.now) ds vars.now.variables blocks.now)) }
@@ -200,7 +216,7 @@ fn answer_of_blocks<S: Snapshot, L: Ledger>(
 {
     let mut out = AnswerText::new(alloc)?;
     out.mark("{\"data\":{")?;
-    push_blocks(alloc, snap, &mut out, blocks, kept, vars, reads)?;
+    push_blocks(alloc, snap, &mut out, blocks, kept, vars, folds, reads)?;
     out.mark("}}")?;
     Ok(out.into_string())
 }
@@ -229,7 +245,7 @@ pub fn run_variables<S: Snapshot, L: Ledger>(
         alloc,
         plan.query.blocks.as_slice(),
         plan.parts.as_slice(),
-        &vars,
+        &Folds::of(alloc, &vars)?,
     )?;
     Ok(vars)
 }
@@ -264,5 +280,6 @@ pub fn run_plan<S: Snapshot, L: Ledger>(
     let vars = run_variables(alloc, snap, plan, reads)?;
     let blocks = plan.query.blocks.as_slice();
     let kept = plan.parts.as_slice();
-    Ok(answer_of_blocks(alloc, snap, blocks, kept, &vars, reads)?)
+    let folds = Folds::of(alloc, &vars)?;
+    Ok(answer_of_blocks(alloc, snap, blocks, kept, &vars, &folds, reads)?)
 }

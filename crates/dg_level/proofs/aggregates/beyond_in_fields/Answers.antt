@@ -10,7 +10,7 @@ returns-then-place-kept c = λ schema ds are. absurd (omega (arith, c.loop-place
 
 pub returns-then-is_some : goal.returns-then-is_some
 returns-then-is_some c = λ schema ds are.
-    let vars = c.args.vars.now.variables in
+    let vars = c.args.folds.now in
     let fields = c.args.fields.now in
     let i = c.loop-place.place in
     let field = c.index-fields-place.result in
@@ -22,7 +22,7 @@ returns-then-is_some c = λ schema ds are.
 
 pub loop-place-preserved : goal.loop-place-preserved
 loop-place-preserved c = λ schema ds are.
-    let vars = c.args.vars.now.variables in
+    let vars = c.args.folds.now in
     let fields = c.args.fields.now in
     let i = c.loop-place.place in
     let field = c.index-fields-place.result in

@@ -7,4 +7,4 @@ use Rattle.dg_level.proofs.aggregates.beyond_in_fields.Given as goal
 
 -- none so far
 abbrev pub invariant-loop-place : goal.invariant-loop-place
-invariant-loop-place l = (schema : List PredDef) (ds : List Definition) → AreFieldsOf schema ds l.fields l.kept → flat_map (beyond_of_field ds l.vars.variables) (take l.place l.fields) ≡ []
+invariant-loop-place l = (schema : List PredDef) (ds : List Definition) → AreFieldsOf schema ds l.fields l.kept → flat_map (beyond_of_field ds l.folds) (take l.place l.fields) ≡ []

@@ -16,7 +16,7 @@ returns-then-place-kept-clause-ok c = λ schema ds are. absurd (omega (arith, c.
 
 pub returns-in_err-wrote-clause-too_large : goal.returns-in_err-wrote-clause-too_large
 returns-in_err-wrote-clause-too_large c = λ schema ds are e.
-    let vars = c.args.vars.now.variables in
+    let vars = c.args.folds.now in
     let fields = c.args.fields.now in
     let l = c.loop-place in
     let field = c.index-fields-place.result in
@@ -30,7 +30,7 @@ returns-in_err-wrote-clause-too_large c = λ schema ds are e.
 
 pub loop-place-preserved : goal.loop-place-preserved
 loop-place-preserved c = λ schema ds are.
-    let vars = c.args.vars.now.variables in
+    let vars = c.args.folds.now in
     let fields = c.args.fields.now in
     let l = c.loop-place in
     let field = c.index-fields-place.result in

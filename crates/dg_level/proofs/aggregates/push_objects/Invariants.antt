@@ -12,5 +12,5 @@ use Rattle.dg_level.proofs.aggregates.push_objects.Given as goal
 abbrev pub invariant-loop-place : goal.invariant-loop-place
 invariant-loop-place l =
     (schema : List PredDef) (ds : List Definition) → AreFieldsOf schema ds l.fields l.kept
-    → (l.out ≡ l.initial.out ++ parts_text false (texts_of (objects_of_field ds l.vars.variables) tree_text (take l.place l.fields)))
-    × (l.wrote ≡ has_parts false (texts_of (objects_of_field ds l.vars.variables) tree_text (take l.place l.fields)))
+    → (l.out ≡ l.initial.out ++ parts_text false (texts_of (objects_of_field ds l.folds) tree_text (take l.place l.fields)))
+    × (l.wrote ≡ has_parts false (texts_of (objects_of_field ds l.folds) tree_text (take l.place l.fields)))

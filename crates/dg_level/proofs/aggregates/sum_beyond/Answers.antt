@@ -17,7 +17,7 @@ returns-then-at-kept c = λ schema ds are. absurd (omega (arith, c.loop-at-test.
 
 pub returns-then-is_some : goal.returns-then-is_some
 returns-then-is_some c = λ schema ds are.
-    let vars = c.args.vars.now.variables in
+    let vars = c.args.folds.now in
     let blocks = c.args.blocks.now in
     let i = c.loop-at.at in
     let block = c.index-blocks-at.result in
@@ -32,7 +32,7 @@ returns-then-is_some c = λ schema ds are.
 
 pub loop-at-preserved : goal.loop-at-preserved
 loop-at-preserved c = λ schema ds are.
-    let vars = c.args.vars.now.variables in
+    let vars = c.args.folds.now in
     let blocks = c.args.blocks.now in
     let i = c.loop-at.at in
     let block = c.index-blocks-at.result in

@@ -7,4 +7,4 @@ use Rattle.dg_level.proofs.aggregates.sum_beyond.Given as goal
 
 -- none so far
 abbrev pub invariant-loop-at : goal.invariant-loop-at
-invariant-loop-at l = (schema : List PredDef) (ds : List Definition) → AreBlocksOf schema ds l.blocks l.kept → sums_beyond ds l.vars.variables (take l.at l.blocks) ≡ []
+invariant-loop-at l = (schema : List PredDef) (ds : List Definition) → AreBlocksOf schema ds l.blocks l.kept → sums_beyond ds l.folds (take l.at l.blocks) ≡ []

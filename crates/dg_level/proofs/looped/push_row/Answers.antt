@@ -1,4 +1,4 @@
-use Rattle.std.proofs.Common.{◌≡◌, ◌+◌, ◌<◌, ◌≤◌, [], ◌∷◌, ◌++◌, map, length, get_or, sym, ap, ◌∙◌, arith, rules}
+use Rattle.std.proofs.Common.{◌+◌, ◌<◌, ◌≤◌, [], ◌∷◌, ◌++◌, map, length, get_or, ap, ◌∙◌, arith, rules}
 use Rattle.dg_tree.specs.Texts.{field_text}
 use Rattle.dg_level.specs.Rows.{total, with_fields}
 use Rattle.dg_level.specs.Rows.{AreOfLevel}

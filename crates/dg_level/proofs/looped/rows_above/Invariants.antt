@@ -1,4 +1,4 @@
-use Rattle.std.proofs.Common.{◌≡◌, ℕ, List, [], map, take}
+use Rattle.std.proofs.Common.{◌≡◌, List, [], map, take}
 use Rattle.std.specs.Ordering.{nat_cmp}
 use Rattle.dg_values.specs.Ascending.{ascending}
 use Rattle.dg_level.specs.Rows.{row_text}

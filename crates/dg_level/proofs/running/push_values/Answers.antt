@@ -14,14 +14,14 @@ pub returns-in_err-key-clause-too_large : goal.returns-in_err-key-clause-too_lar
 returns-in_err-key-clause-too_large c = λ schema ds is e.
     let block = c.args.block.now in
     let out = c.args.out.now in
-    key_passes block.name (trees.Array (aggregates_shown ds c.args.vars.now.variables block.fields)) out 16777216
+    key_passes block.name (trees.Array (aggregates_shown ds c.args.folds.now block.fields)) out 16777216
     (subst (λ (k : List ℕ). 16777216 < length (out ++ key_text k)) c.as_str.ensures (c.key.ensures.too_large (search rules)))
 
 pub returns-clause-ok : goal.returns-clause-ok
 returns-clause-ok c = λ schema ds is.
     let block = c.args.block.now in
     let out = c.args.out.now in
-    let vars = c.args.vars.now.variables in
+    let vars = c.args.folds.now in
     let are : AreFieldsOf schema ds c.as_slice-fields.result.now c.as_slice.result.now =
     subst (λ (qs : List QField). AreFieldsOf schema ds qs c.as_slice.result.now) (sym c.as_slice-fields.ensures) (subst (λ (ks : List Field). AreFieldsOf schema ds block.fields ks) (sym c.as_slice.ensures) is.fields) in
     let keyed : c.key.new.self ≡ out ++ key_text block.name = c.in_ok-key.ensures.ok ∙ ap (λ k. out ++ key_text k) c.as_str.ensures in
@@ -33,7 +33,7 @@ pub returns-clause-too_large : goal.returns-clause-too_large
 returns-clause-too_large c = λ schema ds is e.
     let block = c.args.block.now in
     let out = c.args.out.now in
-    let vars = c.args.vars.now.variables in
+    let vars = c.args.folds.now in
     let are : AreFieldsOf schema ds c.as_slice-fields.result.now c.as_slice.result.now =
     subst (λ (qs : List QField). AreFieldsOf schema ds qs c.as_slice.result.now) (sym c.as_slice-fields.ensures) (subst (λ (ks : List Field). AreFieldsOf schema ds block.fields ks) (sym c.as_slice.ensures) is.fields) in
     let keyed : c.key.new.self ≡ out ++ key_text block.name = c.in_ok-key.ensures.ok ∙ ap (λ k. out ++ key_text k) c.as_str.ensures in

@@ -7,4 +7,4 @@ pub answer_of_blocks-requires : goal.answer_of_blocks-requires
 answer_of_blocks-requires g c =
     let schema = g.S.Snapshot.declared c.args.snap.now in
     let plan = c.args.plan.now in
-    record { alike = ap length c.as_slice-blocks.ensures ∙ (as_many schema (defined_in schema plan.query) plan.query.blocks plan.parts c.requires.plan.parts ∙ sym (ap length c.as_slice-kept.ensures)) }
+    record { folds = c.in_ok-folds.ensures; alike = ap length c.as_slice-blocks.ensures ∙ (as_many schema (defined_in schema plan.query) plan.query.blocks plan.parts c.requires.plan.parts ∙ sym (ap length c.as_slice-kept.ensures)) }

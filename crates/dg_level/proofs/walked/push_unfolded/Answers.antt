@@ -1,11 +1,11 @@
-use Rattle.std.proofs.Common.{◌≡◌, ℕ, ◌-◌, ◌+◌, ◌<◌, true, false, List, [], ◌∷◌, ◌++◌, length, sym, ap, subst, ◌∙◌, arith, rules, true≢false}
+use Rattle.std.proofs.Common.{◌≡◌, ℕ, ◌-◌, ◌<◌, false, List, [], ◌∷◌, ◌++◌, length, sym, ap, subst, ◌∙◌, arith, rules, true≢false}
 use Rattle.std.specs.Ordering.{nat_cmp}
-use Rattle.dg_values.specs.Ascending.{Ascends, has}
+use Rattle.dg_values.specs.Ascending.{has}
 use Rattle.dg_sets.specs.Placing.{StandsAt}
 use Rattle.dg_recurse.specs.Columns.{pieces_at}
 use Rattle.dg_tree.specs.declared.tree.Field.{Field}
 use Rattle.dg_level.specs.Looping.{pieces_by}
-use Rattle.dg_level.specs.Rows.{total, row_text}
+use Rattle.dg_level.specs.Rows.{row_text}
 use Rattle.dg_level.specs.Unfolding.{unfolded}
 use Rattle.dg_level.proofs.RowLaws.{total_first, total_joined}
 use Rattle.dg_level.proofs.WalkedLaws.{held, walked_same, roots_there}

@@ -1,4 +1,4 @@
-use Rattle.std.proofs.Common.{◌≡◌, ℕ, ◌-◌, false, List, [], ◌∷◌, map, take}
+use Rattle.std.proofs.Common.{◌≡◌, ◌-◌, false, List, [], ◌∷◌, map, take}
 use Rattle.dg_recurse.specs.Ways.{IsAtNone}
 use Rattle.dg_level.specs.Looping.{PieceOf, pieces_by}
 use Rattle.dg_level.specs.Placing.{ArePlaced}

@@ -1,7 +1,7 @@
 use Rattle.std.proofs.Common.{◌≡◌, ◌≤◌, ◌*◌, flat_map, take}
 use Rattle.std.specs.Prelude.{unsigned_abs}
 use Rattle.dg_level.specs.Aggregates.{number_in, sum_of}
-use Rattle.dg_level.proofs.aggregates.sum_of.Given as goal
+use Rattle.dg_level.proofs.folds.sum_of.Given as goal
 
 -- the sum so far, and how far from 0 it can be
 abbrev pub invariant-loop-value : goal.invariant-loop-value

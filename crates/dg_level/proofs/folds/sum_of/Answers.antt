@@ -3,7 +3,7 @@ use Rattle.std.specs.Prelude.{unsigned_abs}
 use Rattle.std.proofs.lemmas.Int.{to_z-of_z, fits_signed_from_abs}
 use mir.Syntax.{w128}
 use Rattle.dg_level.proofs.AggregateLaws.{sum_more, abs_sum}
-use Rattle.dg_level.proofs.aggregates.sum_of.Goals as goal
+use Rattle.dg_level.proofs.folds.sum_of.Goals as goal
 
 pub loop-value-preserved : goal.loop-value-preserved
 loop-value-preserved c =

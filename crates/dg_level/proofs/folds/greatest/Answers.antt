@@ -1,7 +1,7 @@
 use Rattle.std.proofs.Common.{◌<◌, length, arith, ap, ◌∙◌}
 use Rattle.std.specs.Prelude.{Some}
 use Rattle.dg_level.proofs.AggregateLaws.{greatest_more}
-use Rattle.dg_level.proofs.aggregates.greatest.Goals as goal
+use Rattle.dg_level.proofs.folds.greatest.Goals as goal
 
 pub loop-value-preserved : goal.loop-value-preserved
 loop-value-preserved c =
