@@ -1,5 +1,6 @@
 // What a record makes of a group's copies. A record of one part changes one copy in place.
 ghost use Rattle.std.specs.Prelude.{[], ◌≡◌, ◌<◌, ◌∷◌, OnOk, OnErr, IfSome, IfNone, None, map, true};
+ghost use Rattle.std.specs.Arc.{arc_value};
 ghost use Rattle.std.specs.List.{AllByRecursion};
 ghost use Rattle.dg_values.specs.Ascending.{Ascends};
 ghost use Rattle.dg_delta.specs.Ops.{op_cmp};
@@ -8,10 +9,11 @@ ghost use Rattle.dg_list.specs.Lists.{newest_ts};
 ghost use Rattle.dg_store.specs.Stores.{list_at};
 ghost use Rattle.dg_group.specs.Groups.{copied_cmp, copy_of, is_copy_of, copy_after, fresh_at, with_fresh, IsOnly};
 
-use crate::copied::{Copied, all_after, below, is_of, is_open_at, with_new};
+use crate::copied::{Copied, all_after, below, is_of, is_open_at, shared, with_new};
 use dg_keys::{Part, Record};
 use dg_values::{Mem, OutOfMemory};
 use std::alloc::Global;
+use std::sync::Arc;
 
 impl Copied {
     // Adds the one part of a record to the lists, where they are read still.
@@ -62,21 +64,59 @@ fn put_one(alloc: Global, copies: &mut Vec<Copied>, rec: &Record, part: &Part) -
     }
 }
 
-// Makes copies those after a record, with those of new tablets of this group. After an error they are as they were.
-pub fn put_record(alloc: Global, copies: &mut Vec<Copied>, number: u32, rec: &Record) -> Mem<()>
-    requires ascend { Ascends copied_cmp copies.old.items }
+// The same of copies that a pin may share: then others take their place.
+fn put_part(alloc: Global, copies: &mut Arc<Vec<Copied>>, rec: &Record, part: &Part) -> Mem<()>
+    requires ascend { Ascends copied_cmp (arc_value copies.old).items }
+    requires one { rec.now.parts ≡ part.now ∷ [] }
     requires parts { AreParts rec.now.parts }
-    requires newer { AllByRecursion (λ c. AllByRecursion (λ e. newest_ts e.1 < rec.now.ts) c.store) (with_fresh copies.old.items (fresh_at number rec.now)) }
+    requires newer { AllByRecursion (λ c. AllByRecursion (λ e. newest_ts e.1 < rec.now.ts) c.store) (arc_value copies.old).items }
     requires some { 0 < rec.now.ts }
-    ensures ok { OnOk result (copies.new.items ≡ map (copy_after rec.now) (with_fresh copies.old.items (fresh_at number rec.now))) }
-    ensures err { OnErr result (copies.new.items ≡ copies.old.items) }
+    ensures ok { OnOk result ((arc_value copies.new).items ≡ map (copy_after rec.now) (arc_value copies.old).items) }
+    ensures err { OnErr result ((arc_value copies.new).items ≡ (arc_value copies.old).items) }
+{
+    match Arc::get_mut(copies) {
+        Some(copies) => put_one(alloc, copies, rec, part),
+        None => put_beside(alloc, copies, rec, part),
+    }
+}
+
+// The same, in others beside them.
+fn put_beside(alloc: Global, copies: &mut Arc<Vec<Copied>>, rec: &Record, part: &Part) -> Mem<()>
+    requires ascend { Ascends copied_cmp (arc_value copies.old).items }
+    requires one { rec.now.parts ≡ part.now ∷ [] }
+    requires parts { AreParts rec.now.parts }
+    requires newer { AllByRecursion (λ c. AllByRecursion (λ e. newest_ts e.1 < rec.now.ts) c.store) (arc_value copies.old).items }
+    requires some { 0 < rec.now.ts }
+    ensures ok { OnOk result ((arc_value copies.new).items ≡ map (copy_after rec.now) (arc_value copies.old).items) }
+    ensures err { OnErr result ((arc_value copies.new).items ≡ (arc_value copies.old).items) }
+{
+    let mut after = shared(alloc, copies.as_slice())?;
+    put_one(alloc, &mut after, rec, part)?;
+    *copies = Arc::new(alloc, after)?;
+    Ok(())
+}
+
+// Makes copies those after a record, with those of new tablets of this group. After an error they are as they were.
+pub fn put_record(
+    alloc: Global,
+    copies: &mut Arc<Vec<Copied>>,
+    number: u32,
+    rec: &Record,
+) -> Mem<()>
+    requires ascend { Ascends copied_cmp (arc_value copies.old).items }
+    requires parts { AreParts rec.now.parts }
+    requires newer { AllByRecursion (λ c. AllByRecursion (λ e. newest_ts e.1 < rec.now.ts) c.store) (with_fresh (arc_value copies.old).items (fresh_at number rec.now)) }
+    requires some { 0 < rec.now.ts }
+    ensures ok { OnOk result ((arc_value copies.new).items ≡ map (copy_after rec.now) (with_fresh (arc_value copies.old).items (fresh_at number rec.now))) }
+    ensures err { OnErr result ((arc_value copies.new).items ≡ (arc_value copies.old).items) }
 {
     if rec.fresh.as_slice().is_empty() {
         if let [part] = rec.parts.as_slice() {
-            return put_one(alloc, copies, rec, part);
+            return put_part(alloc, copies, rec, part);
         }
     }
     let all = with_new(alloc, copies.as_slice(), number, rec)?;
-    *copies = all_after(alloc, all.as_slice(), rec)?;
+    let after = all_after(alloc, all.as_slice(), rec)?;
+    *copies = Arc::new(alloc, after)?;
     Ok(())
 }

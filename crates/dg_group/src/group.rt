@@ -10,12 +10,13 @@ ghost use Rattle.dg_zero.specs.Exact.{AreExact};
 
 use crate::Pinned;
 use crate::applying::put_record;
-use crate::copied::{Copied, find, shared};
+use crate::copied::{Copied, find};
 use dg_keys::Record;
 use dg_store::Store;
 use dg_values::{Mem, OutOfMemory};
 use std::alloc::Global;
 use std::marker::Model;
+use std::sync::Arc;
 
 /// What a group holds. Contracts see its number, the timestamp of the last record that it applied (0 before the first), and
 /// its copies of tablets, ascending by predicate.
@@ -24,17 +25,18 @@ pub struct GroupState {
     alloc: Global,
     number: u32,
     last: u64,
-    copies: Vec<Copied>,
+    copies: Arc<Vec<Copied>>,
 }
 
 impl Model for GroupState {
+    ghost use Rattle.std.specs.Arc.{arc_value};
     ghost use Rattle.dg_group.specs.Groups.{Group, IsWhole};
 
     ghost Value = { Group };
 
-    ghost view = { λ g. record { number = g.number; last = g.last; copies = g.copies.items } };
+    ghost view = { λ g. record { number = g.number; last = g.last; copies = (arc_value g.copies).items } };
 
-    ghost invariant = { λ g. IsWhole (record { number = g.number; last = g.last; copies = g.copies.items }) };
+    ghost invariant = { λ g. IsWhole (record { number = g.number; last = g.last; copies = (arc_value g.copies).items }) };
 }
 
 impl GroupState {
@@ -46,12 +48,12 @@ impl GroupState {
             alloc,
             number,
             last: 0,
-            copies: Vec::new(alloc),
+            copies: Arc::new(alloc, Vec::new(alloc))?,
         })
     }
 
     /// Applies the next record: it is given the tablets that are new at this group, and each copy that is read still gets one
-    /// more layer for each part of its predicate. A list of a record of one part is changed in place, where no pin shares it.
+    /// more layer for each part of its predicate. A record of one part changes its list in place, where no pin shares it.
     /// After an error nothing has changed.
     pub fn apply(&mut self, rec: &Record) -> Mem<()>
         requires next { CanApply self.old rec.now }
@@ -68,7 +70,7 @@ impl GroupState {
     pub fn share(&self) -> Mem<Pinned>
         ensures { IfOk result (λ pinned. pinned ≡ self.now) }
     {
-        let copies = shared(self.alloc, self.copies.as_slice())?;
+        let copies = Arc::try_clone(&self.copies)?;
         Ok(Pinned::new(self.number, self.last, copies))
     }
 
