@@ -4,17 +4,19 @@
     bench.py [--program PATH] [--quick] [--sizes N,N,N] [--only WORDS,..] [--repeat N] [--plain]
 
 It prints a table: for each workload and size how many seconds of a processor the program took, how many microseconds
-a request (`begin`, `mutate`, `query`, `upsert`, `commit` and `discard` are one each) and a unit, its peak memory, and the
-exponent by which the time grew since the size before (1 is as the size, 2 as its square). A size is a number of units:
-changes of a load, commits that are tried, reads, sign-ups, nodes that are marked. Behind it stands a table of questions, whose names begin with `query`:
-for each number of nodes how often a question was asked in one transaction, how many bytes an answer has, how many
-microseconds a query took, and the exponent by which that grew.
+a request (`begin`, `mutate`, `query`, `upsert`, `commit` and `discard` are one each) and a unit, its peak memory, by how
+many bytes a request that is above the peak over what is needed first, and the exponent by which the time grew since the
+size before (1 is as the size, 2 as its square). A size is a number of units: changes of a load, commits that are tried,
+reads, sign-ups, nodes that are marked. Behind it stands a table of questions, whose names begin with `query`: for each
+number of nodes how often a question was asked in one transaction, how many bytes an answer has, how many microseconds a
+query took, by how many KiB the peak is above that over the data alone, which is what one query takes, and the exponent
+by which the time grew.
 
 `--quick` takes smaller sizes and less than a minute; `--only` takes the workloads and questions whose names have one of
 the words; `--repeat` takes the best of so many runs; `--plain` leaves SQLite out.
 
-The program reads a script from a file and writes its replies to another. The time of a run over what a workload needs
-first is taken off. Every reply is counted, and one that isn't `ok`, but for conflicts where they are meant, ends it
+The program reads a script from a file and writes its replies to another. The time and the peak of a run over what a
+workload needs first are taken off. Every reply is counted, and one that isn't `ok`, but for conflicts where they are meant, ends it
 with 1. Workloads with an index are left out where the program answers 98 to directives.
 
 SQLite is Python's own, in memory, in a process of its own whose peak has Python in it. It does the same work over a
@@ -152,13 +154,18 @@ WORKLOADS = [
 
 
 class Figures(NamedTuple):
-    """How many seconds of a processor something took, for how many requests, its peak in MiB, and how many bytes the
-    answers to queries have."""
+    """How many seconds of a processor something took, for how many requests, its peak in MiB, how many bytes the
+    answers to queries have, and the peak in MiB of what was needed first."""
 
     seconds: float
     requests: int
     peak: float
     answered: int = 0
+    first: float = 0.0
+
+    def above(self) -> float:
+        """How many bytes the peak is above that of what was needed first."""
+        return max(0.0, self.peak - self.first) * 2**20
 
 
 class Ending(NamedTuple):
@@ -272,7 +279,7 @@ def of_program(program: Path, work: Workload, size: int, repeat: int = 1) -> Fig
     whole, first = (min(runs, key=lambda ran: ran.ending.seconds) for runs in zip(*pairs))
     seconds = max(0.0, whole.ending.seconds - first.ending.seconds)
     requests = sum(whole.replies.values()) - sum(first.replies.values())
-    return Figures(seconds, requests, whole.ending.peak, whole.answered - first.answered)
+    return Figures(seconds, requests, whole.ending.peak, whole.answered - first.answered, first.ending.peak)
 
 
 # ---------------------------------------------------------------------------------------------------
@@ -366,7 +373,7 @@ def in_sqlite(work: Workload, size: int) -> Figures:
     base = Sqlite(work)
     for step in work.before(size):
         base.do(step)
-    seconds, requests, base.answered = 0.0, 0, 0
+    seconds, requests, base.answered, first = 0.0, 0, 0, peak_so_far(os.getpid()) / 1024
     steps = work.measured(size)
     # The requests are made in advance, some at a time, so that neither their making nor their memory counts.
     while some := list(islice(steps, 1_000)):
@@ -375,7 +382,7 @@ def in_sqlite(work: Workload, size: int) -> Figures:
             base.do(step)
         seconds += time.process_time() - began
         requests += len(some)
-    return Figures(seconds, requests, peak_so_far(os.getpid()) / 1024, base.answered)
+    return Figures(seconds, requests, peak_so_far(os.getpid()) / 1024, base.answered, first)
 
 
 def of_sqlite(work: Workload, size: int, repeat: int = 1) -> Optional[Figures]:
@@ -402,8 +409,8 @@ def one_of_sqlite(work: Workload, size: int) -> Figures:
 # The tables
 # ---------------------------------------------------------------------------------------------------
 
-HEADS = ["Seconds", "µs a request", "µs a unit", "Peak MiB", "Growth"]
-QUESTION_HEADS = ["µs a query", "Peak MiB", "Growth"]
+HEADS = ["Seconds", "µs a request", "µs a unit", "Peak MiB", "Bytes a request", "Growth"]
+QUESTION_HEADS = ["µs a query", "Peak MiB", "KiB a query", "Growth"]
 Side = Callable[[Workload, int], Optional[Figures]]
 
 
@@ -418,13 +425,16 @@ def cells(now: Optional[Figures], size: int, grew: str) -> list[str]:
     """The cells of a row for one side."""
     if now is None:
         return ["-"] * len(HEADS)
-    each = [now.seconds * 1e6 / count for count in (max(1, now.requests), size)]
-    return [f"{now.seconds:.3f}", *(f"{it:.2f}" for it in each), f"{now.peak:.0f}", grew]
+    requests = max(1, now.requests)
+    each = [now.seconds * 1e6 / count for count in (requests, size)]
+    return [f"{now.seconds:.3f}", *(f"{it:.2f}" for it in each), f"{now.peak:.0f}", f"{now.above() / requests:.0f}", grew]
 
 
 def question_cells(now: Optional[Figures], _: int, grew: str) -> list[str]:
     """The cells of a question for one side, whose figures are of one query."""
-    return [f"{now.seconds * 1e6:.2f}", f"{now.peak:.0f}", grew] if now else ["-"] * len(QUESTION_HEADS)
+    if now is None:
+        return ["-"] * len(QUESTION_HEADS)
+    return [f"{now.seconds * 1e6:.2f}", f"{now.peak:.0f}", f"{now.above() / 1024:.0f}", grew]
 
 
 def row(words: Iterable[str]) -> None:

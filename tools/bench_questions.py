@@ -178,7 +178,7 @@ QUESTIONS = [
         RANK,
         ranks,
         lambda size, draw: from_on(max(1, size - 99)),
-        lambda size: 10 + size * 3 // 2,
+        lambda size: 300,
         "int",
     ),
     *(

@@ -136,7 +136,7 @@ class Tables(InFolder):
         lines = done.stdout.splitlines()
         self.assertRegex(lines[0], r"^\| Workload \| Size \| Seconds \| .* \| SQLite: Growth \|$")
         rows = [[cell.strip() for cell in line.strip("|").split("|")] for line in lines]
-        self.assertEqual({len(cells) for cells in rows}, {12})
+        self.assertEqual({len(cells) for cells in rows}, {14})
         self.assertEqual([cells[0][:9] for cells in rows[2:]], ["contended"] * 2 + ["hot key"] * 2)
         self.assertEqual([cells[1] for cells in rows[2:]], ["2", "4"] * 2)
 
@@ -147,22 +147,26 @@ class Tables(InFolder):
                               encoding="utf-8", timeout=2 * SECONDS)  # fmt: skip
         self.assertEqual((done.returncode, done.stderr), (0, ""))
         lines = done.stdout.splitlines()
-        head = "| Question | Nodes | Queries | Bytes an answer | µs a query | Peak MiB | Growth |"
+        head = "| Question | Nodes | Queries | Bytes an answer | µs a query | Peak MiB | KiB a query | Growth |"
         self.assertEqual([line == "" for line in lines].index(True), lines.index(head) - 1)
         rows = [[cell.strip() for cell in line.strip("|").split("|")] for line in lines[lines.index(head) + 2 :]]
         name = "query: has, all nodes"
         self.assertEqual([cells[:4] for cells in rows], [[name, "2", "3", "44"], [name, "4", "3", "72"]])
 
     def test_growth(self) -> None:
-        one, two = bench.Figures(1.0, 3, 1.0), bench.Figures(100.0, 30, 1.0)
+        one, two = bench.Figures(1.0, 3, 1.0), bench.Figures(100.0, 32, 4.0, 0, 3.0)
         self.assertEqual(bench.growth(two, 1000, one, 100), "2.00")
         self.assertEqual(bench.growth(two, 1000, None, 0), "-")
         self.assertEqual(bench.growth(two, 1000, one._replace(seconds=0.0), 100), "-")
         self.assertEqual(bench.growth(None, 1000, one, 100), "-")
-        self.assertEqual(bench.cells(two, 1000, "2.00"), ["100.000", "3333333.33", "100000.00", "1", "2.00"])
-        self.assertEqual(bench.cells(None, 1000, "-"), ["-"] * 5)
-        self.assertEqual(bench.question_cells(two, 1000, "2.00"), ["100000000.00", "1", "2.00"])
-        self.assertEqual(bench.question_cells(None, 1000, "-"), ["-"] * 3)
+        self.assertEqual(bench.cells(two, 1000, "2.00"), ["100.000", "3125000.00", "100000.00", "4", "32768", "2.00"])
+        self.assertEqual(bench.cells(None, 1000, "-"), ["-"] * 6)
+        self.assertEqual(bench.question_cells(two, 1000, "2.00"), ["100000000.00", "4", "1024", "2.00"])
+        self.assertEqual(bench.question_cells(None, 1000, "-"), ["-"] * 4)
+
+    def test_memory_above_what_is_needed_first(self) -> None:
+        self.assertEqual(bench.Figures(1.0, 3, 1.5, 0, 1.0).above(), 2**19)
+        self.assertEqual(bench.Figures(1.0, 3, 1.0, 0, 1.5).above(), 0)
 
     def test_figures_of_one_query(self) -> None:
         question = next(it for it in bench.QUESTIONS if it.name.startswith("query: has"))

@@ -10,7 +10,8 @@ import bench
 import check_bench
 from tests.helpers import SECONDS, TOOLS, InFolder
 
-FIGURES = ["0.000", "12.34", "5.00", "6", "-"]
+FIGURES = ["0.000", "12.34", "5.00", "6", "789", "-"]
+ASKED = ["12.34", "6", "7", "-0.08"]
 
 
 def row(*cells: str) -> str:
@@ -18,9 +19,14 @@ def row(*cells: str) -> str:
 
 
 def tables() -> str:
-    """The tables of a bench in which all was measured, of the program alone."""
-    works = [row(work.name, f"{size:,}", *FIGURES) for work in bench.WORKLOADS for size in bench.QUICK]
-    asked = [row(it.name, f"{size:,}", "8", "36", *FIGURES[1:3], "-0.08") for it in bench.QUESTIONS for size in bench.QUICK]
+    """The tables of a bench in which all was measured, of the program and of SQLite."""
+    none = ["-"] * len(FIGURES)
+    works = [
+        row(work.name, f"{size:,}", *FIGURES, *(none if work.is_older else FIGURES))
+        for work in bench.WORKLOADS
+        for size in bench.QUICK
+    ]
+    asked = [row(it.name, f"{size:,}", "8", "36", *ASKED, *ASKED) for it in bench.QUESTIONS for size in bench.QUICK]
     return "".join([row("Workload", "Size"), row("---", "---:"), *works, "\n", row("Question", "Nodes"), *asked])
 
 
@@ -31,29 +37,31 @@ class Rows(InFolder):
         self.assertEqual(list(check_bench.missing(tables())), [])
 
     def test_names_and_sizes_are_those_of_the_bench(self) -> None:
-        rows = [name for name, *_ in check_bench.wanted()]
+        rows = [row.name for row in check_bench.wanted()]
         self.assertEqual(len(rows), 3 * (len(bench.WORKLOADS) + len(bench.QUESTIONS)))
         asked = [question.workload().name for question in bench.QUESTIONS]
         self.assertEqual(list(dict.fromkeys(rows)), [*(work.name for work in bench.WORKLOADS), *asked])
 
     def test_a_row_that_is_missing_or_stands_twice(self) -> None:
-        one = row("hot key", "3,000", *FIGURES)
+        one = row("hot key", "3,000", *FIGURES, *FIGURES)
         self.assertIn(one, tables())
         self.assertEqual(list(check_bench.missing(tables().replace(one, ""))), ["hot key, 3,000: 0 rows, and not one"])
         self.assertEqual(list(check_bench.missing(tables() + one)), ["hot key, 3,000: 2 rows, and not one"])
 
     def test_what_is_no_figure(self) -> None:
-        one = row("hot key", "3,000", *FIGURES)
-        for cells in (["0.000", "-", "5.00", "6", "-"], ["0.000", "nan", "5.00", "6", "-"], ["0.000"]):
-            found = list(check_bench.missing(tables().replace(one, row("hot key", "3,000", *cells))))
-            self.assertEqual(found, [f"hot key, 3,000: no figures: {' | '.join(cells[:4])}"])
+        one = row("hot key", "3,000", *FIGURES, *FIGURES)
+        good = FIGURES[:-1]
+        for cells in ([*good[:1], "-", *good[2:]], [*good[:1], "nan", *good[2:]], good[:1]):
+            for sides in ([*cells, "-", *FIGURES], [*FIGURES, *cells, "-"]):
+                found = list(check_bench.missing(tables().replace(one, row("hot key", "3,000", *sides))))
+                self.assertEqual([it.partition(": no figures: ")[0] for it in found], ["hot key, 3,000"], sides)
         name = bench.QUESTIONS[0].name
-        one = row(name, "1,000", "8", "36", *FIGURES[1:3], "-0.08")
-        found = list(check_bench.missing(tables().replace(one, row(name, "1,000", "8", "36", "-", "5", "-0.08"))))
-        self.assertEqual(found, [f"{name}, 1,000: no figures: - | 5"])
+        one = row(name, "1,000", "8", "36", *ASKED, *ASKED)
+        found = list(check_bench.missing(tables().replace(one, row(name, "1,000", "8", "36", "-", *ASKED[1:], *ASKED))))
+        self.assertEqual(found, [f"{name}, 1,000: no figures: - | {' | '.join([*ASKED[1:3], *ASKED[:3]])}"])
 
     def test_what_is_left_out(self) -> None:
-        one = "".join(row("hot key", f"{size:,}", *FIGURES) for size in bench.QUICK)
+        one = "".join(row("hot key", f"{size:,}", *FIGURES, *FIGURES) for size in bench.QUICK)
         self.assertIn(one, tables())
         found = list(check_bench.missing(tables().replace(one, row("hot key", "left out: the program answers 98"))))
         self.assertEqual(found, [f"hot key, {size:,}: 0 rows, and not one" for size in bench.QUICK])
@@ -73,7 +81,7 @@ class Runs(InFolder):
     def test_all_is_measured(self) -> None:
         done = self.check(tables(), 0)
         self.assertEqual((done.returncode, done.stderr), (0, ""))
-        self.assertRegex(done.stdout, r"\Abench: [0-9]+ workloads and [0-9]+ questions are measured\n\Z")
+        self.assertRegex(done.stdout, r"\Abench: [0-9]+ workloads and [0-9]+ questions are measured in [0-9]+ seconds\n\Z")
 
     def test_the_bench_doesnt_end_well(self) -> None:
         done = self.check(tables(), 1)
