@@ -81,8 +81,8 @@ ListedBySubjects = (graph : List Triple) (p : List ℕ) (n : ℕ) (o : Posting) 
 
 -- a node is found by its number exactly where that lies between the ends and is at least 1
 abbrev pub FoundByNumbers : Type 0
-FoundByNumbers = (graph : List Triple) (p : List ℕ) (reverse : Bool) (low high n : ℕ) → has nat_cmp (by_count graph p reverse low high) n ≡ (has_number graph p reverse low high n && nat_le 1 (number_of graph p reverse n))
+FoundByNumbers = (graph : List Triple) (p : List ℕ) (reverse : Bool) (low : ℕ) (high : Option ℕ) (n : ℕ) → has nat_cmp (by_count graph p reverse low high) n ≡ (has_number graph p reverse low high n && nat_le 1 (number_of graph p reverse n))
 
 -- nodes that are found by their numbers come in order
 abbrev pub FoundAscend : Type 0
-FoundAscend = (graph : List Triple) (p : List ℕ) (reverse : Bool) (low high : ℕ) → Ascends nat_cmp (by_count graph p reverse low high)
+FoundAscend = (graph : List Triple) (p : List ℕ) (reverse : Bool) (low : ℕ) (high : Option ℕ) → Ascends nat_cmp (by_count graph p reverse low high)

@@ -122,14 +122,19 @@ pointed_to graph p = ascending nat_cmp (filter_map (pointed_by p) graph)
 abbrev pub number_of : List Triple → List ℕ → Bool → ℕ → ℕ
 number_of graph p reverse n = if reverse then length (subjects_of graph p (Uid n)) else length (objects graph p n)
 
+-- a number is at or below the high end; an end that is None holds nothing back
+abbrev pub is_number_up_to : Option ℕ → ℕ → Bool
+is_number_up_to None number = true
+is_number_up_to (Some high) number = nat_le number high
+
 -- that number lies between the ends, both included
-abbrev pub has_number : List Triple → List ℕ → Bool → ℕ → ℕ → ℕ → Bool
-has_number graph p reverse low high n = nat_le low (number_of graph p reverse n) && nat_le (number_of graph p reverse n) high
+abbrev pub has_number : List Triple → List ℕ → Bool → ℕ → Option ℕ → ℕ → Bool
+has_number graph p reverse low high n = nat_le low (number_of graph p reverse n) && is_number_up_to high (number_of graph p reverse n)
 
 -- the nodes of which that number is at least 1, ascending
 abbrev pub counted : List Triple → List ℕ → Bool → List ℕ
 counted graph p reverse = if reverse then pointed_to graph p else holders graph p
 
 -- those of them whose number lies between the ends
-abbrev pub by_count : List Triple → List ℕ → Bool → ℕ → ℕ → List ℕ
+abbrev pub by_count : List Triple → List ℕ → Bool → ℕ → Option ℕ → List ℕ
 by_count graph p reverse low high = filter (has_number graph p reverse low high) (counted graph p reverse)

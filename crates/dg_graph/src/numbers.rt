@@ -1,6 +1,6 @@
 // Nodes found by how many objects they have, or how many nodes point to them.
 ghost use Rattle.std.specs.Prelude.{◌≡◌, nat_le, ◌&&◌, IfOk};
-ghost use Rattle.dg_graph.specs.Lookups.{number_of, has_number, counted, by_count};
+ghost use Rattle.dg_graph.specs.Lookups.{number_of, is_number_up_to, has_number, counted, by_count};
 
 use crate::Graph;
 use crate::found::{holders, pointed_to, subjects};
@@ -32,11 +32,21 @@ fn counted(alloc: Global, graph: &Graph, p: &str, reverse: bool) -> Mem<Uids>
     }
 }
 
-// Whether a number lies between two.
-fn is_within(number: u64, low: u64, high: u64) -> bool
-    ensures { result ≡ (nat_le low number && nat_le number high) }
+// Whether a number is at or below the high end, if there is one.
+fn is_up_to(number: u64, high: Option<u64>) -> bool
+    ensures { result ≡ is_number_up_to high number }
 {
-    low <= number && number <= high
+    match high {
+        Some(high) => number <= high,
+        None => true,
+    }
+}
+
+// Whether a number lies between two ends.
+fn is_within(number: u64, low: u64, high: Option<u64>) -> bool
+    ensures { result ≡ (nat_le low number && is_number_up_to high number) }
+{
+    low <= number && is_up_to(number, high)
 }
 
 // Whether a node's number lies between two.
@@ -46,7 +56,7 @@ fn has_number(
     p: &str,
     reverse: bool,
     low: u64,
-    high: u64,
+    high: Option<u64>,
     n: u64,
 ) -> Mem<bool>
     ensures { IfOk result (λ b. b ≡ has_number graph.now p.now reverse low high n) }
@@ -62,7 +72,7 @@ pub(crate) fn by_count(
     p: &str,
     reverse: bool,
     low: u64,
-    high: u64,
+    high: Option<u64>,
 ) -> Mem<Uids>
     ensures { IfOk result (λ uids. uids ≡ by_count graph.now p.now reverse low high) }
 {

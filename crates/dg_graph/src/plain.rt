@@ -82,7 +82,7 @@ impl Snapshot for Plain {
         p: &str,
         reverse: bool,
         low: u64,
-        high: u64,
+        high: Option<u64>,
         reads: &mut Steps<L>,
     ) -> Mem<Uids> {
         reads.tick();

@@ -77,14 +77,15 @@ pub trait Snapshot {
         ensures more_reads { reads.old ≤ reads.new };
 
     /// The nodes with at least one object and with `low` to `high` of them, both included; or where `reverse`, those that
-    /// at least one and `low` to `high` subjects point to. The predicate is declared with lists of these.
+    /// at least one and `low` to `high` subjects point to. A `high` that is None holds nothing back. The predicate is declared
+    /// with lists of these.
     fn by_count<L: Ledger>(
         &self,
         alloc: Global,
         p: &str,
         reverse: bool,
         low: u64,
-        high: u64,
+        high: Option<u64>,
         reads: &mut Steps<L>,
     ) -> Mem<Uids>
         requires numbers { has_numbers (declared self.now) p.now reverse ≡ true }
