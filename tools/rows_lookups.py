@@ -63,6 +63,7 @@ begin 1
 1 range exact name - - -
 1 count friend 1
 1 count friend x 1
+1 count friend - 1
 1 count friend 1 18446744073709551616
 1 count ~~friend 1 1
 1 subjects friend
@@ -168,10 +169,15 @@ add 3 del 1 friend 8 del 9 boss 9 del 9 name text:nobody
 2,3,now count friend 2 2
 2,3,now count friend 2 18446744073709551615
 2,3,now count friend 0 18446744073709551615
+2,3,now count friend 0 -
+2,3,now count friend 2 -
+2,3,now count friend 3 -
 2,3,now count friend 3 2
 2,3,now count ~friend 0 0
 2,3,now count ~friend 1 1
 2,3,now count ~friend 2 9
+2,3,now count ~friend 0 -
+2,3,now count ~friend 2 -
 2,3,now count knows 1 1
 2,3,now count knows 2 3
 2,3,now count age 1 1
@@ -464,12 +470,12 @@ def triples(graph: Graph, p: str) -> Iterator[tuple[int, Posting]]:
     return ((s, o) for (pred, s), objects in graph.items() if pred == p for o in objects)
 
 
-def numbers(nodes: list[int], low: int, high: int) -> list[int]:
+def numbers(nodes: list[int], low: int, high: int | None) -> list[int]:
     """Those that stand there so often."""
     times: dict[int, int] = {}
     for node in nodes:
         times[node] = times.get(node, 0) + 1
-    return [node for node, n in times.items() if low <= n <= high]
+    return [node for node, n in times.items() if low <= n and (high is None or n <= high)]
 
 
 def looked_up(schema: dict[str, Definition], graph: Graph, command: str, words: list[str]) -> list[int]:
@@ -505,7 +511,8 @@ def looked_up(schema: dict[str, Definition], graph: Graph, command: str, words: 
     if command == "holders" and len(words) == 1:
         return [s for s, _ in triples(graph, words[0])]
     if command == "count" and len(words) == 3:
-        p, low, high = words[0].removeprefix("~"), number(words[1]), number(words[2])
+        p, low = words[0].removeprefix("~"), number(words[1])
+        high = None if words[2] == "-" else number(words[2])
         is_reverse = words[0].startswith("~")
         kept(declared(p).has_count and (declared(p).has_reverse or not is_reverse))
         if is_reverse:

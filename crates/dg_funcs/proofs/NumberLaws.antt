@@ -1,21 +1,17 @@
 -- Nodes by their numbers.
-use Rattle.std.proofs.Common.{◌≡◌, ℕ, ℤ, pos, ◌≤◌, nat_le, Bool, true, false, cond, not, List, [], ◌∷◌, flat_map, length, refl, ap, sym, ◌∙◌, arith}
-use Rattle.std.specs.Prelude.{◌&&◌, ◌||◌, filter, Option}
-use Rattle.std.specs.List.{list_any}
+use Rattle.std.proofs.Common.{◌≡◌, ℕ, ℤ, pos, ◌≤◌, nat_le, Bool, true, false, cond, List, [], ◌∷◌, flat_map, refl, sym, ◌∙◌}
+use Rattle.std.specs.Prelude.{◌&&◌, ◌||◌, filter, Option, None}
 use Rattle.std.proofs.lemmas.Bool.{le-leb, leb-true}
 use Rattle.std.specs.declared.cmp.Ordering.{Ordering}
 use Rattle.std.specs.declared.cmp.Ordering.TheVariants.{Less, Equal, Greater}
-use Rattle.std.specs.Ordering.{nat_cmp, int_cmp, is_eq, is_le, is_lt, is_ge, is_gt}
+use Rattle.std.specs.Ordering.{nat_cmp, int_cmp, is_eq, is_le, is_ge}
 use Rattle.dg_values.specs.declared.kind.Kind.{Kind}
 use Rattle.dg_values.specs.declared.value.Value.{Value}
 use Rattle.dg_values.specs.declared.value.Value.TheVariants.{Int}
-use Rattle.dg_uids.specs.Sets.{lacking}
 use Rattle.dg_graph.specs.declared.change.Triple.{Triple}
-use Rattle.dg_graph.specs.Graphs.{objects}
-use Rattle.dg_graph.specs.Lookups.{holders, pointed_to, by_count, has_number, number_of}
+use Rattle.dg_graph.specs.Lookups.{pointed_to, by_count, is_number_up_to, has_number}
 use Rattle.dg_graph.proofs.LookUpLaws.{counted_are, counted_ascend}
-use Rattle.dg_values.specs.declared.value.Posting.TheVariants.{Uid}
-use Rattle.dg_values.specs.Order.{posting_cmp, value_cmp}
+use Rattle.dg_values.specs.Order.{value_cmp}
 use Rattle.dg_values.specs.Ascending.{ascending}
 use Rattle.dg_parse.specs.declared.query.CmpOp.{CmpOp}
 use Rattle.dg_parse.specs.declared.query.CmpOp.TheVariants as ops
@@ -26,70 +22,40 @@ use Rattle.dg_check.specs.declared.vars.Variable.{Variable}
 use Rattle.dg_funcs.specs.Truth.{stands, stands_to_any, count_along}
 use Rattle.dg_funcs.specs.Roots.{nodes_with, root_nodes}
 use Rattle.dg_funcs.specs.Numbers.{numbered, standing, numbered_as}
-use Rattle.dg_funcs.proofs.PassLaws.{or_false, filter_same, filter_true, lacking_passed}
-use Rattle.dg_funcs.proofs.IndexLaws.{where_is_filter, gathered_any}
+use Rattle.dg_funcs.proofs.PassLaws.{or_false, filter_same, filter_true}
+use Rattle.dg_funcs.proofs.IndexLaws.{gathered_any}
 use Rattle.dg_funcs.proofs.EqualLaws.{stands_same}
 
-fewer : (f : ℕ → Bool) (xs : List ℕ) → length (filter f xs) ≤ length xs
-fewer f [] = omega arith
-fewer f (x ∷ xs) = by (f x) (fewer f xs)
-  where
-    by : (b : Bool) → length (filter f xs) ≤ length xs → length (cond b (x ∷ filter f xs) (filter f xs)) ≤ length (x ∷ xs)
-    by true h = omega (arith, h)
-    by false h = omega (arith, h)
-
--- no more subjects point to a node than there are
-few_subjects : (graph : List Triple) (p : List ℕ) (n : ℕ) → number_of graph p true n ≤ length (holders graph p)
-few_subjects graph p n =
-    let kept = fewer (λ s. list_any (λ o. is_eq (posting_cmp o (Uid n))) (objects graph p s)) (holders graph p) in
-    let same = ap length (where_is_filter graph p (λ o. is_eq (posting_cmp o (Uid n)))) in
-    omega (arith, kept, same)
-
--- so each that is pointed to has a number up to theirs
-pub pointed_counted : (graph : List Triple) (p : List ℕ) → by_count graph p true 1 (length (holders graph p)) ≡ pointed_to graph p
+-- each node that is pointed to has a number from 1 on
+pub pointed_counted : (graph : List Triple) (p : List ℕ) → by_count graph p true 1 None ≡ pointed_to graph p
 pointed_counted graph p =
-    filter_same (has_number graph p true 1 (length (holders graph p))) (λ n. true) (pointed_to graph p)
-    (λ n h. λ i. (sym (counted_are graph p true n) ∙ h) i && le-leb (number_of graph p true n) (length (holders graph p)) (few_subjects graph p n) i)
+    filter_same (has_number graph p true 1 None) (λ n. true) (pointed_to graph p) (λ n h. λ i. (sym (counted_are graph p true n) ∙ h) i && true)
     ∙ filter_true (pointed_to graph p)
+
+and_true : (b : Bool) → (b && true) ≡ b
+and_true true = refl
+and_true false = refl
 
 ge_and_le : (o : Ordering) → (is_ge o && is_le o) ≡ is_eq o
 ge_and_le Less = refl
 ge_and_le Equal = refl
 ge_and_le Greater = refl
 
-not_lt : (o : Ordering) → not (is_lt o) ≡ is_ge o
-not_lt Less = refl
-not_lt Equal = refl
-not_lt Greater = refl
-
-not_le : (o : Ordering) → not (is_le o) ≡ is_gt o
-not_le Less = refl
-not_le Equal = refl
-not_le Greater = refl
-
 module _ (graph : List Triple) (edge : QEdge) where
   -- the lists of the numbers that pass a test
-  pub same_numbers : (low high : ℕ) (test : ℤ → Bool) → ((k : ℕ) → 1 ≤ k → (nat_le low k && nat_le k high) ≡ test (pos k)) → by_count graph edge.pred edge.back low high ≡ numbered graph edge test
+  pub same_numbers : (low : ℕ) (high : Option ℕ) (test : ℤ → Bool) → ((k : ℕ) → 1 ≤ k → (nat_le low k && is_number_up_to high k) ≡ test (pos k)) → by_count graph edge.pred edge.back low high ≡ numbered graph edge test
   same_numbers low high test f =
       filter_same (has_number graph edge.pred edge.back low high) (λ n. test (pos (count_along graph edge n))) (nodes_with graph edge)
       (λ n h. f (count_along graph edge n) (leb-true 1 (count_along graph edge n) (sym (counted_are graph edge.pred edge.back n) ∙ h)))
 
-  pub from_one : (high : ℕ) (test : ℤ → Bool) → ((k : ℕ) → 1 ≤ k → nat_le k high ≡ test (pos k)) → by_count graph edge.pred edge.back 1 high ≡ numbered graph edge test
-  from_one high test f = same_numbers 1 high test (λ k l. (λ i. le-leb 1 k l i && nat_le k high) ∙ f k l)
+  pub from_one : (high : Option ℕ) (test : ℤ → Bool) → ((k : ℕ) → 1 ≤ k → is_number_up_to high k ≡ test (pos k)) → by_count graph edge.pred edge.back 1 high ≡ numbered graph edge test
+  from_one high test f = same_numbers 1 high test (λ k l. (λ i. le-leb 1 k l i && is_number_up_to high k) ∙ f k l)
+
+  pub without_end : (low : ℕ) (test : ℤ → Bool) → ((k : ℕ) → nat_le low k ≡ test (pos k)) → by_count graph edge.pred edge.back low None ≡ numbered graph edge test
+  without_end low test f = same_numbers low None test (λ k l. and_true (nat_le low k) ∙ f k)
 
   pub equal_is : (n : ℤ) → numbered graph edge (λ k. is_ge (int_cmp k n) && is_le (int_cmp k n)) ≡ standing graph edge ops.Eq n
   equal_is n = λ i. numbered graph edge (λ k. ge_and_le (int_cmp k n) i)
-
-  -- all but those that are less
-  pub all_from : (n : ℤ) → lacking (nodes_with graph edge) (numbered graph edge (λ k. is_lt (int_cmp k n))) ≡ standing graph edge ops.Ge n
-  all_from n =
-      lacking_passed (λ m. is_lt (int_cmp (pos (count_along graph edge m)) n)) (nodes_with graph edge)
-      ∙ λ i. numbered graph edge (λ k. not_lt (int_cmp k n) i)
-
-  pub all_above : (n : ℤ) → lacking (nodes_with graph edge) (numbered graph edge (λ k. is_le (int_cmp k n))) ≡ standing graph edge ops.Gt n
-  all_above n =
-      lacking_passed (λ m. is_le (int_cmp (pos (count_along graph edge m)) n)) (nodes_with graph edge)
-      ∙ λ i. numbered graph edge (λ k. not_le (int_cmp k n) i)
 
   pub number_root : (vars : List Variable) (op : CmpOp) (kind : Option Kind) (n : ℤ) → standing graph edge op n ≡ root_nodes graph vars (funcs.Cmp op (part.Count edge) kind (Int n ∷ []))
   number_root vars op kind n =

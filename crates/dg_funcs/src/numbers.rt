@@ -1,6 +1,6 @@
 // Comparisons of numbers of objects and of subjects, by lists of nodes by their numbers.
 ghost use Rattle.std.specs.Prelude.{◌≡◌, ◌≤◌, ◌∷◌, [], ◌&&◌, ℕ, pos, nat_le, true, Option, IfOk, flat_map};
-ghost use Rattle.std.specs.Ordering.{nat_cmp, int_cmp, is_le, is_lt, is_ge};
+ghost use Rattle.std.specs.Ordering.{nat_cmp, int_cmp, is_le, is_lt, is_ge, is_gt};
 ghost use Rattle.dg_values.specs.Ascending.{ascending};
 ghost use Rattle.dg_values.specs.declared.kind.Kind.{Kind};
 ghost use Rattle.dg_values.specs.declared.value.Value.TheVariants.{Int};
@@ -13,7 +13,7 @@ ghost use Rattle.dg_funcs.specs.Roots.{root_nodes};
 ghost use Rattle.dg_funcs.specs.Numbers.{numbered, standing, numbered_as};
 
 use crate::equal::distinct;
-use crate::roots::{nodes_with, root_by_search};
+use crate::roots::root_by_search;
 use dg_check::{Func, Vars};
 use dg_graph::Snapshot;
 use dg_parse::{CmpOp, QEdge};
@@ -38,7 +38,7 @@ pub(crate) fn has_numbers<S: Snapshot>(snap: &S, p: &str, reverse: bool) -> bool
     }
 }
 
-/// The nodes that any subject points to, by the lists of their numbers. No more subjects point to a node than there are.
+/// The nodes that any subject points to, by the lists of their numbers.
 pub(crate) fn pointed_by_numbers<S: Snapshot, L: Ledger>(
     alloc: Global,
     snap: &S,
@@ -48,8 +48,7 @@ pub(crate) fn pointed_by_numbers<S: Snapshot, L: Ledger>(
     requires numbers { has_numbers (S.declared snap.now) p.now true ≡ true }
     ensures { IfOk result (λ uids. uids ≡ pointed_to (S.graph snap.now) p.now) }
 {
-    let all = snap.holders(alloc, p, reads)?;
-    snap.by_count(alloc, p, true, 1, all.len() as u64, reads)
+    snap.by_count(alloc, p, true, 1, None, reads)
 }
 
 // The first number, counted from 0 on, that isn't below another.
@@ -58,6 +57,13 @@ fn counted_from(n: &i64) -> u64
     ensures up_to { (k : ℕ) → 1 ≤ k → nat_le k result ≡ is_le (int_cmp (pos k) n.now) }
 {
     if *n < 0 { 0 } else { *n as u64 }
+}
+
+// The first number, counted from 0 on, that is above another.
+fn counted_above(n: &i64) -> u64
+    ensures { (k : ℕ) → nat_le result k ≡ is_gt (int_cmp (pos k) n.now) }
+{
+    if *n < 0 { 0 } else { *n as u64 + 1 }
 }
 
 // The last number, counted from 0 on, that is below another; 0 where there is none.
@@ -79,7 +85,7 @@ fn up_to<S: Snapshot, L: Ledger>(
     ensures { IfOk result (λ uids. uids ≡ numbered (S.graph snap.now) edge.now (λ k. is_le (int_cmp k n.now))) }
 {
     let high = counted_from(n);
-    snap.by_count(alloc, edge.pred.as_str(), edge.back, 1, high, reads)
+    snap.by_count(alloc, edge.pred.as_str(), edge.back, 1, Some(high), reads)
 }
 
 // The nodes whose number is below this one.
@@ -94,7 +100,7 @@ fn below<S: Snapshot, L: Ledger>(
     ensures { IfOk result (λ uids. uids ≡ numbered (S.graph snap.now) edge.now (λ k. is_lt (int_cmp k n.now))) }
 {
     let high = counted_below(n);
-    snap.by_count(alloc, edge.pred.as_str(), edge.back, 1, high, reads)
+    snap.by_count(alloc, edge.pred.as_str(), edge.back, 1, Some(high), reads)
 }
 
 // The nodes whose number lies between two.
@@ -111,11 +117,40 @@ fn between<S: Snapshot, L: Ledger>(
 {
     let from = counted_from(low);
     let to = counted_from(high);
-    snap.by_count(alloc, edge.pred.as_str(), edge.back, from, to, reads)
+    snap.by_count(alloc, edge.pred.as_str(), edge.back, from, Some(to), reads)
 }
 
-// The nodes whose number stands so to this one. How large a number may be no list says, so that those above one are all but
-// those that aren't.
+// The nodes whose number is this one or more.
+fn from_on<S: Snapshot, L: Ledger>(
+    alloc: Global,
+    snap: &S,
+    edge: &QEdge,
+    n: &i64,
+    reads: &mut Steps<L>,
+) -> Mem<Uids>
+    requires numbers { has_numbers (S.declared snap.now) edge.now.pred edge.now.back ≡ true }
+    ensures { IfOk result (λ uids. uids ≡ numbered (S.graph snap.now) edge.now (λ k. is_ge (int_cmp k n.now))) }
+{
+    let low = counted_from(n);
+    snap.by_count(alloc, edge.pred.as_str(), edge.back, low, None, reads)
+}
+
+// The nodes whose number is above this one.
+fn above<S: Snapshot, L: Ledger>(
+    alloc: Global,
+    snap: &S,
+    edge: &QEdge,
+    n: &i64,
+    reads: &mut Steps<L>,
+) -> Mem<Uids>
+    requires numbers { has_numbers (S.declared snap.now) edge.now.pred edge.now.back ≡ true }
+    ensures { IfOk result (λ uids. uids ≡ numbered (S.graph snap.now) edge.now (λ k. is_gt (int_cmp k n.now))) }
+{
+    let low = counted_above(n);
+    snap.by_count(alloc, edge.pred.as_str(), edge.back, low, None, reads)
+}
+
+// The nodes whose number stands so to this one.
 fn standing<S: Snapshot, L: Ledger>(
     alloc: Global,
     snap: &S,
@@ -131,16 +166,8 @@ fn standing<S: Snapshot, L: Ledger>(
         CmpOp::Eq => between(alloc, snap, edge, n, n, reads),
         CmpOp::Le => up_to(alloc, snap, edge, n, reads),
         CmpOp::Lt => below(alloc, snap, edge, n, reads),
-        CmpOp::Ge => {
-            let less = below(alloc, snap, edge, n, reads)?;
-            let all = nodes_with(alloc, snap, edge, reads)?;
-            all.without(alloc, &less)
-        }
-        CmpOp::Gt => {
-            let less = up_to(alloc, snap, edge, n, reads)?;
-            let all = nodes_with(alloc, snap, edge, reads)?;
-            all.without(alloc, &less)
-        }
+        CmpOp::Ge => from_on(alloc, snap, edge, n, reads),
+        CmpOp::Gt => above(alloc, snap, edge, n, reads),
     }
 }
 
@@ -261,9 +288,8 @@ fn root_by_numbers<S: Snapshot, L: Ledger>(
 }
 
 /// The nodes whose number of objects, or of subjects, stands so to one of some values. Where there are lists of nodes by
-/// their numbers it reads the list of each number that does, once, and no list of a node; for `ge` and `gt` those that don't,
-/// and all nodes with an object. Only by `eq` there are several values in a plan: with several by another comparison each
-/// node is asked.
+/// their numbers it reads the list of each number that does, once, and no list of a node. Only by `eq` there are several values in
+/// a plan: with several by another comparison each node is asked.
 pub(crate) fn root_of_numbers<S: Snapshot, L: Ledger>(
     alloc: Global,
     snap: &S,

@@ -292,7 +292,7 @@ fn root_of_span<S: Snapshot, L: Ledger>(
 /// |---|---|
 /// | `uid` | none, and no node is asked |
 /// | `has(p)` | those by which all nodes with an object are found; they tell alone |
-/// | `has(~p)` with `@reverse` and `@count` | the same, and one for each number of subjects; they tell alone |
+/// | `has(~p)` with `@reverse` and `@count` | one for each number of subjects; they tell alone |
 /// | `eq` by exact, hash, int or bool | one for each distinct value; they tell alone |
 /// | `eq` by term | one for each distinct term of each value, where each has one |
 /// | `eq` by hour, day, month or year | one for each distinct hour, day, month or year of a value |
@@ -304,8 +304,7 @@ fn root_of_span<S: Snapshot, L: Ledger>(
 /// | `anyofterms` by term | one for each distinct term; they tell alone |
 /// | `allofterms` by term | one for each distinct term |
 /// | `eq` of `count`, with `@count` | one for each distinct number; they tell alone |
-/// | `le`, `lt` of `count` to one value, and `between`, with `@count` | one for each number that stands so; they tell alone |
-/// | `ge`, `gt` of `count` to one value, with `@count` | one for each number that doesn't, and all nodes with an object; they tell alone |
+/// | `le`, `lt`, `ge`, `gt` of `count` to one value, and `between`, with `@count` | one for each number that stands so; they tell alone |
 ///
 /// For all else each node that can pass is asked: each with an object of the predicate, or with a value of the variable. How many
 /// lists are read is promised for `eq` by exact, hash, int or bool alone.

@@ -24,7 +24,7 @@ use Rattle.dg_tokens.specs.declared.tokens.IndexToken.{IndexToken}
 use Rattle.dg_graph.specs.declared.change.Triple.{Triple}
 use Rattle.dg_graph.specs.Graphs.{objects}
 use Rattle.dg_graph.specs.Laws.{IsListedBetween}
-use Rattle.dg_graph.specs.Lookups.{has_tokenizer, is_so_by, is_indexed_by, has_reverse, has_count, has_numbers, subjects_where, subjects_of, holders, has_token, is_from, is_up_to, by_token_range, with_objects, with_subjects, node_in, number_of, has_number, by_count}
+use Rattle.dg_graph.specs.Lookups.{has_tokenizer, is_so_by, is_indexed_by, has_reverse, has_count, has_numbers, subjects_where, subjects_of, holders, has_token, is_from, is_up_to, by_token_range, with_objects, with_subjects, node_in, number_of, is_number_up_to, has_number, by_count}
 use Rattle.dg_graph.proofs.LookUpLaws.{holders_are, holders_ascend, range_ascend, range_token, token_range, with_objects_are, with_subjects_are, by_count_are, by_count_ascend}
 use Rattle.dg_keys.specs.declared.key.Key.{Key}
 use Rattle.dg_keys.specs.declared.key.Key.TheVariants.{Data, Index, Reverse, Count, RCount}
@@ -95,11 +95,13 @@ nodes_more xs i x lt is =
 itself : (p : List ℕ) (rest : Ordering) → ordering_then (text_cmp p p) rest ≡ rest
 itself p rest = ap (λ (c : Ordering). ordering_then c rest) (text_order.itself p)
 
-number_in : (low high n : ℕ) → number_place low high n ≡ Equal → (nat_le low n && nat_le n high) ≡ true
-number_in low high n e = grind (arith, common_steps)
+number_in : (low : ℕ) (high : Option ℕ) (n : ℕ) → number_place low high n ≡ Equal → (nat_le low n && is_number_up_to high n) ≡ true
+number_in low None n e = grind (arith, common_steps)
+number_in low (Some high) n e = grind (arith, common_steps)
 
-number_there : (low high n : ℕ) → (nat_le low n && nat_le n high) ≡ true → number_place low high n ≡ Equal
-number_there low high n e = grind (arith, common_steps)
+number_there : (low : ℕ) (high : Option ℕ) (n : ℕ) → (nat_le low n && is_number_up_to high n) ≡ true → number_place low high n ≡ Equal
+number_there low None n e = grind (arith, common_steps)
+number_there low (Some high) n e = grind (arith, common_steps)
 
 value_in : (low high : Option Value) (v : Value) → value_place low high v ≡ Equal → (is_from low v && is_up_to high v) ≡ true
 value_in low high v = from low high
@@ -231,23 +233,23 @@ module _ (schema : List PredDef) (graph : List Triple) (p : List ℕ) where
       by false f = none (number == m)
 
   -- the number of the node lies between the ends, and is listed
-  is_found : (reverse : Bool) (low high m n : ℕ) → ((number_of graph p reverse n == m) && nat_le 1 m) ≡ true → (nat_le low m && nat_le m high) ≡ true → has nat_cmp (by_count graph p reverse low high) n ≡ true
+  is_found : (reverse : Bool) (low : ℕ) (high : Option ℕ) (m n : ℕ) → ((number_of graph p reverse n == m) && nat_le 1 m) ≡ true → (nat_le low m && is_number_up_to high m) ≡ true → has nat_cmp (by_count graph p reverse low high) n ≡ true
   is_found reverse low high m n e f =
       let same : m ≡ number_of graph p reverse n = sym (eqb-true (number_of graph p reverse n) m (left_of (number_of graph p reverse n == m) (nat_le 1 m) e)) in
       by_count_are graph p reverse low high n
-      ∙ both (has_number graph p reverse low high n) (nat_le 1 (number_of graph p reverse n)) ((λ j. nat_le low (sym same j) && nat_le (sym same j) high) ∙ f) ((λ j. nat_le 1 (sym same j)) ∙ right_of (number_of graph p reverse n == m) (nat_le 1 m) e)
+      ∙ both (has_number graph p reverse low high n) (nat_le 1 (number_of graph p reverse n)) ((λ j. nat_le low (sym same j) && is_number_up_to high (sym same j)) ∙ f) ((λ j. nat_le 1 (sym same j)) ∙ right_of (number_of graph p reverse n == m) (nat_le 1 m) e)
 
-  record IsNumbered (reverse : Bool) (low high n : ℕ) : Type 0 where
-    within : (nat_le low (number_of graph p reverse n) && nat_le (number_of graph p reverse n) high) ≡ true
+  record IsNumbered (reverse : Bool) (low : ℕ) (high : Option ℕ) (n : ℕ) : Type 0 where
+    within : (nat_le low (number_of graph p reverse n) && is_number_up_to high (number_of graph p reverse n)) ≡ true
     there : ((number_of graph p reverse n == number_of graph p reverse n) && nat_le 1 (number_of graph p reverse n)) ≡ true
 
-  of_found : (reverse : Bool) (low high n : ℕ) → has nat_cmp (by_count graph p reverse low high) n ≡ true → IsNumbered reverse low high n
+  of_found : (reverse : Bool) (low : ℕ) (high : Option ℕ) (n : ℕ) → has nat_cmp (by_count graph p reverse low high) n ≡ true → IsNumbered reverse low high n
   of_found reverse low high n h =
       let number = number_of graph p reverse n in
       let is : (has_number graph p reverse low high n && nat_le 1 number) ≡ true = sym (by_count_are graph p reverse low high n) ∙ h in
       record { within = left_of (has_number graph p reverse low high n) (nat_le 1 number) is; there = both (number == number) (nat_le 1 number) (eq-eqb number number refl) (right_of (has_number graph p reverse low high n) (nat_le 1 number) is) }
 
-  pub objects_found : (low high : ℕ) → has_numbers schema p false ≡ true → (found : List ℕ) → AreShown (record { pred = p; over = Objects low high }) (listing schema graph) found → ascending nat_cmp found ≡ by_count graph p false low high
+  pub objects_found : (low : ℕ) (high : Option ℕ) → has_numbers schema p false ≡ true → (found : List ℕ) → AreShown (record { pred = p; over = Objects low high }) (listing schema graph) found → ascending nat_cmp found ≡ by_count graph p false low high
   objects_found low high counted found a =
       found_are (record { pred = p; over = Objects low high }) (listing schema graph) found (by_count graph p false low high) a (by_count_ascend graph p false low high) (λ n s. to n s.0 s.2 (in_span (record { pred = p; over = Objects low high }) s.0 s.1)) (λ n h. from n (of_found false low high n h))
     where
@@ -263,7 +265,7 @@ module _ (schema : List PredDef) (graph : List Triple) (p : List ℕ) where
           let number = number_of graph p false n in
           (Count p number, itself p (ordering_then (nat_cmp 4 4) (number_place low high number)) ∙ number_there low high number is.within, listed number n ∙ is.there)
 
-  pub pointers_found : (low high : ℕ) → has_numbers schema p true ≡ true → (found : List ℕ) → AreShown (record { pred = p; over = Pointers low high }) (listing schema graph) found → ascending nat_cmp found ≡ by_count graph p true low high
+  pub pointers_found : (low : ℕ) (high : Option ℕ) → has_numbers schema p true ≡ true → (found : List ℕ) → AreShown (record { pred = p; over = Pointers low high }) (listing schema graph) found → ascending nat_cmp found ≡ by_count graph p true low high
   pointers_found low high counted found a =
       found_are (record { pred = p; over = Pointers low high }) (listing schema graph) found (by_count graph p true low high) a (by_count_ascend graph p true low high) (λ n s. to n s.0 s.2 (in_span (record { pred = p; over = Pointers low high }) s.0 s.1)) (λ n h. from n (of_found true low high n h))
     where

@@ -64,7 +64,7 @@ module _ (schema : List PredDef) (base : List Triple) (own : List Change) (parts
   pub holders_are : (p q : List ℕ) (found : List ℕ) → q ≡ p → AreShown (record { pred = q; over = Subjects }) (seen schema base parts) found → ascending nat_cmp found ≡ holders (after_changes schema base own) p
   holders_are p q found e a = holders_found schema after p (λ s. data_listing schema after p s after_lawful) found (in_graph p q Subjects Subjects found e refl a)
 
-  pub counts_are : (p q : List ℕ) (reverse : Bool) (low high : ℕ) (over : Over) (found : List ℕ) → q ≡ p → over ≡ (if reverse then Pointers low high else Objects low high) → has_numbers schema p reverse ≡ true
+  pub counts_are : (p q : List ℕ) (reverse : Bool) (low : ℕ) (high : Option ℕ) (over : Over) (found : List ℕ) → q ≡ p → over ≡ (if reverse then Pointers low high else Objects low high) → has_numbers schema p reverse ≡ true
       → AreShown (record { pred = q; over = over }) (seen schema base parts) found → ascending nat_cmp found ≡ by_count (after_changes schema base own) p reverse low high
   counts_are p q true low high over found e f n a = pointers_found schema after p low high n found (in_graph p q (Pointers low high) over found e f a)
   counts_are p q false low high over found e f n a = objects_found schema after p low high n found (in_graph p q (Objects low high) over found e f a)

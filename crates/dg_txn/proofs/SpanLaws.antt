@@ -69,8 +69,13 @@ value_past (Some low) high v w e l = by (value_cmp low v) refl e
 less_is : (n m : ℕ) → nat_cmp n m ≡ Less → n < m
 less_is n m e = grind (arith, common_steps, e)
 
-number_past : (low high n m : ℕ) → number_place low high n ≡ Greater → nat_cmp n m ≡ Less → number_place low high m ≡ Greater
-number_past low high n m e l =
+number_past : (low : ℕ) (high : Option ℕ) (n m : ℕ) → number_place low high n ≡ Greater → nat_cmp n m ≡ Less → number_place low high m ≡ Greater
+number_past low None n m e l = by (nat_le low n) e
+  where
+    by : (b : Bool) → (if b then Equal else Less) ≡ Greater → number_place low None m ≡ Greater
+    by true f = absurd (cc)
+    by false f = absurd (cc)
+number_past low (Some high) n m e l =
     let lt = less_is n m l in
     grind (arith, common_steps)
 
@@ -117,17 +122,18 @@ subjects_start pred key e = of key (in_span (record { pred = pred; over = Subjec
     of (Data p s) h = ap is_le (within pred (Data pred 0) (Data p s) refl h.pred) ∙ zero_first s
     of key h = absurd (omega (arith, h.rank))
 
-from_low : (low high n : ℕ) → number_place low high n ≡ Equal → is_le (nat_cmp low n) ≡ true
-from_low low high n e = grind (arith, common_steps)
+from_low : (low : ℕ) (high : Option ℕ) (n : ℕ) → number_place low high n ≡ Equal → is_le (nat_cmp low n) ≡ true
+from_low low None n e = grind (arith, common_steps)
+from_low low (Some high) n e = grind (arith, common_steps)
 
-pub objects_start : (pred : List ℕ) (low high : ℕ) → IsStart (record { pred = pred; over = Objects low high }) (Count pred low)
+pub objects_start : (pred : List ℕ) (low : ℕ) (high : Option ℕ) → IsStart (record { pred = pred; over = Objects low high }) (Count pred low)
 objects_start pred low high key e = of key (in_span (record { pred = pred; over = Objects low high }) key e)
   where
     of : (key : Key) → IsInSpan (record { pred = pred; over = Objects low high }) key → is_le (key_cmp (Count pred low) key) ≡ true
     of (Count p n) h = ap is_le (within pred (Count pred low) (Count p n) refl h.pred) ∙ from_low low high n h.field
     of key h = absurd (omega (arith, h.rank))
 
-pub pointers_start : (pred : List ℕ) (low high : ℕ) → IsStart (record { pred = pred; over = Pointers low high }) (RCount pred low)
+pub pointers_start : (pred : List ℕ) (low : ℕ) (high : Option ℕ) → IsStart (record { pred = pred; over = Pointers low high }) (RCount pred low)
 pointers_start pred low high key e = of key (in_span (record { pred = pred; over = Pointers low high }) key e)
   where
     of : (key : Key) → IsInSpan (record { pred = pred; over = Pointers low high }) key → is_le (key_cmp (RCount pred low) key) ≡ true

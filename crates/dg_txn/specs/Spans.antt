@@ -22,9 +22,14 @@ abbrev pub value_place : Option Value → Option Value → Value → Ordering
 value_place None high v = below_end high v
 value_place (Some low) high v = if is_le (value_cmp low v) then below_end high v else Less
 
+-- a number that is at the lower end or above it: past the upper end, or not
+abbrev pub number_end : Option ℕ → ℕ → Ordering
+number_end None n = Equal
+number_end (Some high) n = if nat_le n high then Equal else Greater
+
 -- where a number lies
-abbrev pub number_place : ℕ → ℕ → ℕ → Ordering
-number_place low high n = if nat_le low n then (if nat_le n high then Equal else Greater) else Less
+abbrev pub number_place : ℕ → Option ℕ → ℕ → Ordering
+number_place low high n = if nat_le low n then number_end high n else Less
 
 -- where a key of the predicate and the kind lies
 abbrev pub field_place : Over → Key → Ordering

@@ -135,7 +135,7 @@ pub fn holders<L: Ledger>(
 }
 
 // The kind of keys by which nodes are counted.
-fn counts(reverse: bool, low: u64, high: u64) -> Over
+fn counts(reverse: bool, low: u64, high: Option<u64>) -> Over
     ensures { result ≡ (if reverse then spans.Pointers low high else spans.Objects low high) }
 {
     if reverse {
@@ -146,7 +146,7 @@ fn counts(reverse: bool, low: u64, high: u64) -> Over
 }
 
 // The nodes with at least one object and with so many, or that at least one and so many subjects point to. A number of 0
-// has no key.
+// has no key. Without an upper end all keys from the lower one on are read.
 pub fn by_count<L: Ledger>(
     alloc: Global,
     base: &Present,
@@ -154,7 +154,7 @@ pub fn by_count<L: Ledger>(
     p: &str,
     reverse: bool,
     low: u64,
-    high: u64,
+    high: Option<u64>,
     reads: &mut Steps<L>,
 ) -> Mem<Uids>
     requires numbers { has_numbers base.now.schema p.now reverse ≡ true }

@@ -29,15 +29,15 @@ pub enum Over {
         low: Option<Value>,
         high: Option<Value>,
     },
-    // The keys of numbers of objects between two, both included.
+    // The keys of numbers of objects between two, both included; without an upper end there is no bound there.
     Objects {
         low: u64,
-        high: u64,
+        high: Option<u64>,
     },
-    // The keys of numbers of subjects between two, both included.
+    // The keys of numbers of subjects between two in the same way.
     Pointers {
         low: u64,
-        high: u64,
+        high: Option<u64>,
     },
 }
 
@@ -80,16 +80,28 @@ fn value_place(low: &Option<Value>, high: &Option<Value>, v: &Value) -> Ordering
     }
 }
 
+// Where a number at or above the lower end lies.
+fn number_end(high: Option<u64>, n: u64) -> Ordering
+    ensures { result ≡ spans.number_end high n }
+{
+    match high {
+        None => Ordering::Equal,
+        Some(high) => {
+            if n <= high {
+                Ordering::Equal
+            } else {
+                Ordering::Greater
+            }
+        }
+    }
+}
+
 // Where a number lies.
-fn number_place(low: u64, high: u64, n: u64) -> Ordering
+fn number_place(low: u64, high: Option<u64>, n: u64) -> Ordering
     ensures { result ≡ spans.number_place low high n }
 {
     if low <= n {
-        if n <= high {
-            Ordering::Equal
-        } else {
-            Ordering::Greater
-        }
+        number_end(high, n)
     } else {
         Ordering::Less
     }

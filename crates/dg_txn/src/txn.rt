@@ -177,7 +177,7 @@ impl Snapshot for Txn {
         p: &str,
         reverse: bool,
         low: u64,
-        high: u64,
+        high: Option<u64>,
         reads: &mut Steps<L>,
     ) -> Mem<Uids> {
         lookups::by_count(alloc, &self.base, &self.gains, p, reverse, low, high, reads)

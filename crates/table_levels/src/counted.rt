@@ -120,7 +120,7 @@ impl Snapshot for Counted<'_> {
         p: &str,
         reverse: bool,
         low: u64,
-        high: u64,
+        high: Option<u64>,
         reads: &mut Steps<L>,
     ) -> Mem<Uids> {
         add_one(&self.by_count);

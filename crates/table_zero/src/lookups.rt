@@ -43,7 +43,7 @@ pub(crate) enum Lookup {
         p: Str,
         reverse: bool,
         low: u64,
-        high: u64,
+        high: Option<u64>,
     },
 }
 
@@ -123,13 +123,21 @@ fn holders(alloc: Global, words: &[&str]) -> Answer<Lookup> {
     Ok(Lookup::Holders { p })
 }
 
-// A predicate, after `~` for the subjects that point to a node, and two numbers.
+// The upper end of numbers, or that there is none.
+fn number_end(word: &str) -> Answer<Option<u64>> {
+    match word {
+        "-" => Ok(None),
+        _ => Ok(Some(number(word)?)),
+    }
+}
+
+// A predicate, after `~` for the subjects that point to a node, and two numbers, of which the second can be left out.
 fn count(alloc: Global, words: &[&str]) -> Answer<Lookup> {
     let [p, low, high] = *words else {
         return Err(Fault::Unfit);
     };
     let low = number(low)?;
-    let high = number(high)?;
+    let high = number_end(high)?;
     let (p, reverse) = match p.strip_prefix('~') {
         Some(p) => (p, true),
         None => (p, false),

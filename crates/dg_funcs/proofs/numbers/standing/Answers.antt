@@ -1,10 +1,8 @@
 use Rattle.std.proofs.Common.{◌≡◌, ℕ, List, sym, subst, ◌∙◌}
 use Rattle.std.specs.Prelude.{◌&&◌, IfOk}
-use Rattle.std.specs.Ordering.{int_cmp, is_le, is_lt, is_ge}
-use Rattle.dg_uids.specs.Sets.{lacking}
-use Rattle.dg_funcs.specs.Roots.{nodes_with}
+use Rattle.std.specs.Ordering.{int_cmp, is_le, is_lt, is_ge, is_gt}
 use Rattle.dg_funcs.specs.Numbers.{numbered, standing}
-use Rattle.dg_funcs.proofs.NumberLaws.{equal_is, all_from, all_above}
+use Rattle.dg_funcs.proofs.NumberLaws.{equal_is}
 use Rattle.dg_funcs.proofs.numbers.standing.Goals as goal
 
 pub returns-in-Eq : goal.returns-in-Eq
@@ -34,26 +32,20 @@ returns-in-Lt g c =
     let e : numbered graph edge (λ k. is_lt (int_cmp k n)) ≡ standing graph edge c.args.op n = λ i. standing graph edge (back i) n in
     subst (λ (ys : List ℕ). IfOk c.below.result (λ uids. uids ≡ ys)) e c.below.ensures
 
-pub returns-in_ok-all-in-Ge : goal.returns-in_ok-all-in-Ge
-returns-in_ok-all-in-Ge g c =
+pub returns-in-Ge : goal.returns-in-Ge
+returns-in-Ge g c =
     let graph = g.S.Snapshot.graph c.args.snap.now in
     let edge = c.args.edge.now in
     let n = c.args.n.now in
     let back = sym c.in-Ge.is in
-    let less : c.in_ok-less-in-Ge.less ≡ numbered graph edge (λ k. is_lt (int_cmp k n)) = c.in_ok-less-in-Ge.ensures in
-    let all : c.in_ok-all-in-Ge.all ≡ nodes_with graph edge = c.in_ok-all-in-Ge.ensures in
-    let e : lacking c.in_ok-all-in-Ge.all c.in_ok-less-in-Ge.less ≡ standing graph edge c.args.op n =
-    (λ i. lacking (all i) (less i)) ∙ (all_from graph edge n ∙ λ i. standing graph edge (back i) n) in
-    subst (λ (ys : List ℕ). IfOk c.without.result (λ uids. uids ≡ ys)) e c.without.ensures
+    let e : numbered graph edge (λ k. is_ge (int_cmp k n)) ≡ standing graph edge c.args.op n = λ i. standing graph edge (back i) n in
+    subst (λ (ys : List ℕ). IfOk c.from_on.result (λ uids. uids ≡ ys)) e c.from_on.ensures
 
-pub returns-in_ok-all-in-Gt : goal.returns-in_ok-all-in-Gt
-returns-in_ok-all-in-Gt g c =
+pub returns-in-Gt : goal.returns-in-Gt
+returns-in-Gt g c =
     let graph = g.S.Snapshot.graph c.args.snap.now in
     let edge = c.args.edge.now in
     let n = c.args.n.now in
     let back = sym c.in-Gt.is in
-    let less : c.in_ok-less-in-Gt.less ≡ numbered graph edge (λ k. is_le (int_cmp k n)) = c.in_ok-less-in-Gt.ensures in
-    let all : c.in_ok-all-in-Gt.all ≡ nodes_with graph edge = c.in_ok-all-in-Gt.ensures in
-    let e : lacking c.in_ok-all-in-Gt.all c.in_ok-less-in-Gt.less ≡ standing graph edge c.args.op n =
-    (λ i. lacking (all i) (less i)) ∙ (all_above graph edge n ∙ λ i. standing graph edge (back i) n) in
-    subst (λ (ys : List ℕ). IfOk c.without-in-Gt.result (λ uids. uids ≡ ys)) e c.without-in-Gt.ensures
+    let e : numbered graph edge (λ k. is_gt (int_cmp k n)) ≡ standing graph edge c.args.op n = λ i. standing graph edge (back i) n in
+    subst (λ (ys : List ℕ). IfOk c.above.result (λ uids. uids ≡ ys)) e c.above.ensures
