@@ -1,7 +1,8 @@
 #!/usr/bin/env python3
 """Prints the rows of crates/table_shapes: `rows_shapes.py stdin` the rows, `rows_shapes.py stdout` with their answers.
 
-Lists of nodes and whole trees are random. The answers come from `plain_levels.py`, which goes node by node.
+Lists of nodes, whole trees and graphs are random. The answers come from `plain_levels.py`, which goes node by node, and for recursion from
+a walk along each path.
 """
 
 from __future__ import annotations
@@ -233,6 +234,79 @@ def product(count: int) -> str:
     return f"{size} bytes" if size <= LONGEST_ANSWER else "the answer is too large"
 
 
+# ---------------------------------------------------------------------------------------------------
+# Recursion
+# ---------------------------------------------------------------------------------------------------
+
+A, B, C = '"n":"a"', '"n":"b"', '"n":"c"'
+HAND_UNFOLDS = [
+    f"unfold\t1000 1 0\t{A};{B}\tmany 1;0",
+    f"unfold\t1000 2 0\t{A};{B}\tmany 1;0",
+    f"unfold\t1000 3 0\t{A};{B}\tmany 1;0",
+    f"unfold\t1000 32 0\t{A};;{C}\tmany 1 0;2 1;0 1 2",
+    f"unfold\t1000 2 0\t{A};;{C}\tmany 1;2;",
+    f"unfold\t1000 3 0\t{A};{B};{C}\tone 1 2;;",
+    f"unfold\t1000 3 0\t{A};;{C}\tone 1 2;;",
+    f"unfold\t1000 3 0\t;;\tmany 1 2;2;",
+    f"unfold\t1000 3 7\t{A};{B}\tmany 1;",
+    f"unfold\t28 2 0\t{A};{B}\tmany 1;",
+    f"unfold\t27 2 0\t{A};{B}\tmany 1;",
+    f"unfold\t1000 0 0\t{A}\tmany ",
+    f"unfold\t1000 33 0\t{A}\tmany ",
+    f"unfold\t1000 2 0\t{A}\tmany x",
+    f"unfold\t1000 2 0\t{A}\tmany",
+]
+
+
+def walked(texts: list[str], lists: list[list[int]], single: bool, left: int, path: list[int]) -> str:
+    """What the last node of a path shows, where so many edges may be followed: itself, and those to which it leads off the path."""
+    node = path[-1]
+    own = texts[node] if node < len(texts) else ""
+    ends = lists[node] if left and node < len(lists) else []
+    rows = (walked(texts, lists, single, left - 1, [*path, end]) for end in ends if end not in path)
+    objects = [f"{{{row}}}" for row in rows if row]
+    edge = f'"friend":{objects[0]}' if single and objects else f'"friend":[{",".join(objects)}]' if objects else ""
+    return ",".join(part for part in (own, edge) if part)
+
+
+def unfolded(fields: list[str]) -> Optional[str]:
+    """The answer to a row of recursion."""
+    limit, depth, node = map(int, fields[0].split())
+    form, _, lists = fields[2].partition(" ")
+    if not 1 <= depth <= 32 or " " not in fields[2] or "x" in lists:
+        return None
+    ends = [[int(word) for word in part.split()] for part in lists.split(";")]
+    row = walked(fields[1].split(";"), ends, form == "one", depth - 1, [node])
+    return row if len(row) <= limit else "the answer is too large"
+
+
+def behind_a_gate(parents: int, others: int) -> str:
+    """A node that leads to some, each of which leads to one gate; behind it one that has a name, and others that lead to each other
+    and to the gate."""
+    gate, named = parents + 1, parents + 2
+    group = range(named + 1, named + 1 + others)
+    lists = [[*range(1, gate)], *([gate] for _ in range(parents)), [*group, named], [], *([*group, gate] for _ in group)]
+    texts = [A if node == named else "" for node in range(len(lists))]
+    return f"unfold\t100000 32 0\t{';'.join(texts)}\tmany {';'.join(' '.join(map(str, ends)) for ends in lists)}"
+
+
+def random_unfolds() -> Iterator[str]:
+    """Rows over small graphs."""
+    for _ in range(60):
+        count = random.randrange(1, 7)
+        texts = [random.choice(["", "", A, B, C]) for _ in range(count)]
+        lists = [random.sample(range(count), random.randrange(count + 1)) for _ in range(count)]
+        ends = ";".join(" ".join(map(str, ends)) for ends in lists)
+        limit = random.choice([40, 400, 100_000])
+        yield f"unfold\t{limit} {random.randrange(1, 8)} 0\t{';'.join(texts)}\t{random.choice(['many', 'one'])} {ends}"
+
+
+def gate_row(parents: int) -> str:
+    """What is shown behind a gate: of each parent the gate, and behind that the one node with a name."""
+    one = f'{{"friend":[{{"friend":[{{{A}}}]}}]}}'
+    return f'"friend":[{",".join([one] * parents)}]'
+
+
 def rows() -> Iterator[tuple[str, Optional[str]]]:
     """Each row with its answer; none where it can't be read. A comment has no answer."""
     yield "# Lists of nodes in order. Wanted: the rules of the language, by hand.", ""
@@ -248,6 +322,11 @@ def rows() -> Iterator[tuple[str, Optional[str]]]:
     yield "# Nodes under three edges, each followed by each. Wanted: counted by hand.", ""
     yield from ((f"product\t{count}", product(count)) for count in (0, 1, 2, 10, 48, 49, 400, 1000))
     yield "product\tx", None
+    yield "# Recursion: no node of the path comes again. Wanted: a walk along each path.", ""
+    yield from ((row, unfolded(row.split("\t")[1:])) for row in HAND_UNFOLDS)
+    yield from ((row, unfolded(row.split("\t")[1:])) for row in random_unfolds())
+    yield "# A gate, behind which others lead to each other and back. Wanted: by hand.", ""
+    yield from ((behind_a_gate(parents, others), gate_row(parents)) for parents, others in ((1, 3), (5, 10), (40, 30)))
     yield "# Rows that can't be read.", ""
     yield from ((row, None) for row in ("cascade\t{ q(", "strip\t{ q(func: uid(0x1)) { uid } }\tnode 1", "normalize\t{ }\tfield a", "else\t1"))
 

@@ -2,7 +2,9 @@
 ghost use Rattle.std.specs.Prelude.{◌≡◌, nat_le, filter, IfOk};
 ghost use Rattle.std.specs.List.{list_any};
 ghost use Rattle.std.specs.Ordering.{nat_cmp};
-ghost use Rattle.dg_values.specs.Ascending.{has};
+ghost use Rattle.dg_values.specs.Ascending.{ascending, has};
+ghost use Rattle.dg_uids.specs.Sets.{common};
+ghost use Rattle.dg_check.specs.Vars.{named_nodes};
 ghost use Rattle.regex.specs.Strings.{regex_pattern};
 ghost use Rattle.dg_funcs.specs.Truth.{stands_to_any, is_between, compared, count_along, nodes_along, texts_at, found_in, holds_at};
 ghost use Rattle.dg_funcs.specs.Tests.{has_asked};
@@ -12,7 +14,8 @@ use crate::following::{has_some, leads_to};
 use crate::matching::node_matches;
 use crate::named;
 use crate::terms::{TermSet, asked_terms, node_has};
-use dg_check::{Func, Of, Vars};
+use crate::variables::sole_set;
+use dg_check::{Func, Node, Of, Vars};
 use dg_graph::Snapshot;
 use dg_parse::{CmpOp, QEdge};
 use dg_uids::Uids;
@@ -146,6 +149,40 @@ fn held_leading<S: Snapshot, L: Ledger>(
     Ok(Uids::gathered(found))
 }
 
+// Those that are named. A variable that is named alone is looked into as it stands.
+fn held_named(alloc: Global, names: &[Node], nodes: &Uids, vars: &Vars) -> Mem<Uids>
+    ensures { IfOk result (λ uids. uids ≡ common nodes.now (ascending nat_cmp (named_nodes vars.now.variables names.now))) }
+{
+    match sole_set(vars, names) {
+        Some(wanted) => nodes.and(alloc, wanted),
+        None => {
+            let wanted = named(alloc, vars, names)?;
+            nodes.and(alloc, &wanted)
+        }
+    }
+}
+
+// Those that lead to one that is named.
+fn held_leading_to<S: Snapshot, L: Ledger>(
+    alloc: Global,
+    snap: &S,
+    edge: &QEdge,
+    names: &[Node],
+    nodes: &Uids,
+    vars: &Vars,
+    reads: &mut Steps<L>,
+) -> Mem<Uids>
+    ensures { IfOk result (λ uids. uids ≡ filter (λ n. list_any (has nat_cmp (ascending nat_cmp (named_nodes vars.now.variables names.now))) (nodes_along (S.graph snap.now) edge.now n)) nodes.now) }
+{
+    match sole_set(vars, names) {
+        Some(ends) => held_leading(alloc, snap, edge, ends, nodes, reads),
+        None => {
+            let ends = named(alloc, vars, names)?;
+            held_leading(alloc, snap, edge, &ends, nodes, reads)
+        }
+    }
+}
+
 /// The nodes of a set at which a function holds. It asks each node once.
 pub(crate) fn held<S: Snapshot, L: Ledger>(
     alloc: Global,
@@ -158,10 +195,7 @@ pub(crate) fn held<S: Snapshot, L: Ledger>(
     ensures { IfOk result (λ uids. uids ≡ filter (λ n. holds_at (S.graph snap.now) vars.now.variables n func.now) nodes.now) }
 {
     match func {
-        Func::Uid(names) => {
-            let wanted = named(alloc, vars, names.as_slice())?;
-            nodes.and(alloc, &wanted)
-        }
+        Func::Uid(names) => held_named(alloc, names.as_slice(), nodes, vars),
         Func::Cmp { op, of, values, .. } => held_compared(
             alloc,
             snap,
@@ -184,8 +218,7 @@ pub(crate) fn held<S: Snapshot, L: Ledger>(
             held_matching(alloc, snap, pred.as_str(), pattern, nodes, reads)
         }
         Func::UidIn { edge, uids } => {
-            let ends = named(alloc, vars, uids.as_slice())?;
-            held_leading(alloc, snap, edge, &ends, nodes, reads)
+            held_leading_to(alloc, snap, edge, uids.as_slice(), nodes, vars, reads)
         }
     }
 }

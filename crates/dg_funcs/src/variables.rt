@@ -1,5 +1,5 @@
 // What names of nodes and variables stand for.
-ghost use Rattle.std.specs.Prelude.{◌≡◌, ◌++◌, IfOk, OnOk, option_copied, slice_get};
+ghost use Rattle.std.specs.Prelude.{◌≡◌, ◌++◌, IfOk, IfSome, OnOk, option_copied, slice_get};
 ghost use Rattle.std.specs.Ordering.{nat_cmp};
 ghost use Rattle.dg_values.specs.Ascending.{Ascends, ascending};
 ghost use Rattle.dg_check.specs.Vars.{value_beside, value_at, nodes_of, nodes_named, named_nodes};
@@ -60,8 +60,39 @@ fn add_named(found: &mut Vec<u64>, vars: &Vars, name: Node) -> Mem<()>
     Ok(())
 }
 
-/// The nodes for which names stand, ascending. The error is want of memory.
+// The set of the variable at a place, if there is one.
+fn set_at(vars: &Vars, place: usize) -> Option<&Uids>
+    ensures { IfSome (option_copied result) (λ uids. uids ≡ ascending nat_cmp (nodes_of vars.now.variables place)) }
+{
+    match vars.variables.as_slice().get(place) {
+        Some(v) => Some(&v.nodes),
+        None => None,
+    }
+}
+
+/// The set of a variable that is named alone, as it stands: nothing is copied. None where other names stand there, or none does.
+pub(crate) fn sole_set<'a>(vars: &'a Vars, names: &[Node]) -> Option<&'a Uids>
+    ensures { IfSome (option_copied result) (λ uids. uids ≡ ascending nat_cmp (named_nodes vars.now.variables names.now)) }
+{
+    match names {
+        [Node::Var(place)] => set_at(vars, *place),
+        _ => None,
+    }
+}
+
+/// The nodes for which names stand, ascending. Those of a variable that is named alone are copied as they stand, others are
+/// gathered and sorted once. The error is want of memory.
 pub fn named(alloc: Global, vars: &Vars, names: &[Node]) -> Mem<Uids>
+    ensures { IfOk result (λ uids. uids ≡ ascending nat_cmp (named_nodes vars.now.variables names.now)) }
+{
+    match sole_set(vars, names) {
+        Some(set) => set.copy(alloc),
+        None => gathered(alloc, vars, names),
+    }
+}
+
+// The same of any names.
+fn gathered(alloc: Global, vars: &Vars, names: &[Node]) -> Mem<Uids>
     ensures { IfOk result (λ uids. uids ≡ ascending nat_cmp (named_nodes vars.now.variables names.now)) }
 {
     let mut found = Vec::new(alloc);

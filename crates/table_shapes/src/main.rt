@@ -1,10 +1,11 @@
 //! Reads rows from standard input and prints each with its answer: what the rules of shape make of lists of nodes and of whole
-//! trees. A row is the name of a table and its fields, with a tab between any two.
+//! trees, and what recursion shows of a node. A row is the name of a table and its fields, with a tab between any two.
 #![tactic(auto)]
 
 mod orders;
 mod shapes;
 mod trees;
+mod unfolds;
 
 use dg_values::{Mem, OutOfMemory};
 use std::alloc::{AllocError, Global};
@@ -45,6 +46,7 @@ fn answer(alloc: Global, table: &str, fields: &str) -> Mem<Option<String>> {
         "strip" => shapes::stripped(alloc, fields),
         "normalize" => shapes::normalized(alloc, fields),
         "product" => shapes::product(alloc, fields),
+        "unfold" => unfolds::unfolded(alloc, fields),
         _ => Ok(None),
     }
 }
