@@ -1,6 +1,7 @@
 //! What recursion over fetched edges shows of a node, as a text within a limit.
 #![tactic(auto)]
 
+mod blockers;
 mod column;
 mod laws;
 mod near;

@@ -5,92 +5,48 @@ ghost use Rattle.dg_recurse.specs.Written.{child_at, IsDry};
 ghost use Rattle.dg_recurse.specs.Near.{AreLeast};
 ghost use Rattle.dg_recurse.specs.Ways.{IsSoundWay, IsKept, far_at, is_far, are_far, are_far_from};
 
-use crate::way::Way;
+use crate::blockers::blockers_of;
+use crate::way::{Raised, Way};
 use crate::{Column, Reach};
 use dg_values::{Mem, OutOfMemory};
 
-// The nearest of some nodes, and how many edges it is away at least, as long as the path stays up to a depth.
+// The nearest of some nodes, and how many edges it is away at least.
 #[derive(Clone, Copy)]
 struct Nearest {
     edges: u8,
     node: usize,
-    depth: usize,
 }
 
 // How many edges a place is away at least from one that shows something of itself.
 fn edges_of(reach: &Reach, way: &Way, place: usize) -> u8
-    ensures { result ≡ far_at reach.now way.now.visits.items way.now.raised.items place }
+    ensures { result ≡ far_at reach.now way.now.path.items way.now.raised.items place }
 {
     reach.edges(place).max(way.edges(place))
 }
 
 /// Whether a node is farther than so many edges from any place that shows something of itself, off the path.
 pub fn is_too_far(reach: &Reach, way: &Way, left: u32, node: usize) -> bool
-    ensures { IsTrue result ↔ (left < far_at reach.now way.now.visits.items way.now.raised.items node) }
+    ensures { IsTrue result ↔ (left < far_at reach.now way.now.path.items way.now.raised.items node) }
 {
     u32::from(reach.edges(node)) > left || u32::from(way.edges(node)) > left
-}
-
-// Up to which depth the path has to stay for a place to be so many edges away.
-fn depth_for(reach: &Reach, way: &Way, place: usize, edges: u8) -> usize
-    ensures { edges ≤ far_at reach.now way.now.visits.items way.now.raised.items place
-        → is_far reach.now way.now.path.items way.now.visits.items way.now.raised.items result edges place ≡ true }
-{
-    if reach.edges(place) >= edges {
-        return 0;
-    }
-    way.learned_at(place)
-}
-
-// A node that is as far as the one given.
-fn as_far(reach: &Reach, way: &Way, node: usize, given: Nearest) -> Nearest
-    requires { given.edges ≤ far_at reach.now way.now.visits.items way.now.raised.items node }
-    ensures edges { result.edges ≡ given.edges }
-    ensures depth { given.depth ≤ result.depth }
-    ensures far { is_far reach.now way.now.path.items way.now.visits.items way.now.raised.items result.depth result.edges node ≡ true }
-{
-    let depth = depth_for(reach, way, node, given.edges);
-    Nearest {
-        edges: given.edges,
-        node: given.node,
-        depth: given.depth.max(depth),
-    }
 }
 
 // A node, if it is off the path and nearer than the one given.
 fn nearer(reach: &Reach, way: &Way, node: usize, given: Nearest) -> Nearest
     ensures edges { result.edges ≤ given.edges }
-    ensures depth { given.depth ≤ result.depth }
-    ensures far { is_far reach.now way.now.path.items way.now.visits.items way.now.raised.items result.depth result.edges node ≡ true }
+    ensures far { is_far reach.now way.now.path.items way.now.raised.items result.edges node ≡ true }
 {
     let edges = edges_of(reach, way, node);
-    if edges >= given.edges {
-        return as_far(reach, way, node, given);
+    if edges >= given.edges || way.is_on(node) {
+        return given;
     }
-    match way.depth_of(node) {
-        Some(depth) => Nearest {
-            edges: given.edges,
-            node: given.node,
-            depth: given.depth.max(depth),
-        },
-        None => as_far(
-            reach,
-            way,
-            node,
-            Nearest {
-                edges,
-                node,
-                depth: given.depth,
-            },
-        ),
-    }
+    Nearest { edges, node }
 }
 
 // The nearest of these nodes that is off the path, or the one given, where none is nearer; or one that is near enough.
 fn nearest_of(reach: &Reach, way: &Way, nodes: &[usize], given: Nearest, enough: u8) -> Nearest
     ensures edges { result.edges ≤ given.edges }
-    ensures depth { given.depth ≤ result.depth }
-    ensures far { enough ≤ result.edges → are_far reach.now way.now.path.items way.now.visits.items way.now.raised.items result.depth result.edges nodes.now ≡ true }
+    ensures far { enough ≤ result.edges → are_far reach.now way.now.path.items way.now.raised.items result.edges nodes.now ≡ true }
 {
     let mut best = given;
     for node in nodes {
@@ -105,17 +61,33 @@ fn nearest_of(reach: &Reach, way: &Way, nodes: &[usize], given: Nearest, enough:
 // The nearest node to which columns lead from a place, off the path, or one that is nearer than `enough`. Where there is none it is
 // farther than any.
 fn nearest_from(columns: &[Column], reach: &Reach, way: &Way, place: usize, enough: u8) -> Nearest
-    ensures { enough ≤ result.edges → are_far_from columns.now reach.now way.now.path.items way.now.visits.items way.now.raised.items result.depth result.edges place ≡ true }
+    ensures { enough ≤ result.edges → are_far_from columns.now reach.now way.now.path.items way.now.raised.items result.edges place ≡ true }
 {
     let mut best = Nearest {
         edges: u8::MAX,
         node: place,
-        depth: 0,
     };
     for column in columns {
         best = nearest_of(reach, way, column.nodes(place), best, enough);
     }
     best
+}
+
+// Learns that a place is an edge farther than all to which it leads, each of which is on the path or so far. The error is want of
+// memory.
+fn learn(columns: &[Column], reach: &Reach, way: &mut Way, place: usize, edges: u8) -> Mem<()>
+    requires near { AreLeast reach.now columns.now }
+    requires sound { IsSoundWay columns.now way.old }
+    requires bare { 0 < slice_index_or reach.now place 0 }
+    requires far { are_far_from columns.now reach.now way.old.path.items way.old.raised.items edges place ≡ true }
+    ensures kept { OnOk result (IsKept columns.now way.old way.new) }
+{
+    let blockers = blockers_of(columns, reach, way, edges, place)?;
+    let found = Raised {
+        edges: edges.saturating_add(1),
+        blockers,
+    };
+    way.learn(reach.len(), place, found)
 }
 
 // Goes on from a node to the nearest, until one shows something of itself. Where a place isn't nearer than all to which it leads, it
@@ -139,12 +111,7 @@ fn search(columns: &[Column], reach: &Reach, way: &mut Way, left: u32, node: usi
         if nearest.edges < edges {
             place = nearest.node;
         } else {
-            way.learn(
-                reach.len(),
-                place,
-                nearest.depth,
-                nearest.edges.saturating_add(1),
-            )?;
+            learn(columns, reach, way, place, nearest.edges)?;
             place = node;
         }
     }

@@ -184,8 +184,8 @@ fn child_row(
 /// the node, itself on it.
 ///
 /// It goes only where something is shown, so that time follows the length of the row: it passes over a node that shows nothing of
-/// itself, where none that does can be reached off the path. Where ways to the nearest are closed by the path, it learns how far
-/// places are, for as long as the path stays so.
+/// itself, where none that does can be reached off the path. Where ways to the nearest are closed by nodes of the path, it learns
+/// how far places are then, and that counts again whenever these nodes are on the path.
 ///
 /// # Errors
 ///
@@ -210,7 +210,8 @@ pub fn unfold(
     unfold_along(&mut Way::new(alloc), columns, reach, limit, depth, node)
 }
 
-/// The same, for many nodes of the same columns one after another: the way is at no node before and after, and keeps its memory.
+/// The same, for many nodes of the same columns one after another: the way is at no node before and after, and keeps its memory and
+/// what was learned.
 ///
 /// # Errors
 ///

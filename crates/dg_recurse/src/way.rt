@@ -1,92 +1,72 @@
-// The path of a walk, and what was learned on it.
-ghost use Rattle.std.specs.Prelude.{◌≡◌, true, take, IfSome, ◌⊎◌, ◌+◌, ◌-◌, ◌≤◌, ◌<◌, ℕ, [], ◌∷◌, ◌++◌, length, List, slice_index_or, slice_set, OnOk};
+// The path of a walk, and what was learned on the way.
+ghost use Rattle.std.specs.Prelude.{◌≡◌, ◌⊎◌, ◌<◌, ℕ, [], ◌∷◌, ◌++◌, List, slice_index_or, slice_set, IfOk, OnOk};
 ghost use Rattle.dg_recurse.specs.Unfolding.{is_on};
-ghost use Rattle.dg_recurse.specs.Ways.{no_raise, last_visit, raise_at, raised_at, IsLearned, IsNext, IsAtNone};
+ghost use Rattle.dg_recurse.specs.Ways.{no_raise, are_on, raise_at, raised_at, IsLearned, IsAtNone};
 ghost use Rattle.dg_recurse.specs.declared.column.Column.{Column};
 
-use dg_values::{Mem, OutOfMemory};
+use dg_values::{List, Mem, OutOfMemory};
 use std::alloc::Global;
 
-/// How far a place is, as was learned at a visit of the path: none that shows something of itself is nearer, off the path up to
-/// there.
-#[derive(Clone, Copy)]
+/// How far a place is, as was learned: none that shows something of itself is nearer, off whatever path has its blockers on it.
+#[derive(Drop)]
 pub struct Raised {
     /// The edges to it.
     pub edges: u8,
-    /// How many visits of the path were before that one.
-    pub depth: usize,
-    /// The number of the visit.
-    pub visit: u64,
+    /// The nodes that close nearer ways when they are on the path, none of them twice.
+    pub blockers: List<usize>,
 }
 
-/// A path from the root to a node, itself on it, and what was learned along it. Each visit of a node has a number of its own, so that
-/// what was learned at a visit is forgotten when the path leaves it: no visit of the path has its number then.
+/// A path from the root to a node, itself on it, and what was learned of places. That stays true wherever the path goes, and counts
+/// whenever its blockers are on the path, so that leaving a node forgets nothing.
 #[derive(Drop)]
 pub struct Way {
     /// What it takes memory from.
     pub(crate) alloc: Global,
     /// The nodes.
     pub(crate) path: Vec<usize>,
-    /// The numbers of their visits.
-    pub(crate) visits: Vec<u64>,
-    /// The number of the next visit.
-    pub(crate) next: u64,
-    /// What was learned of each place, or nothing yet.
+    /// What was learned last of each place, or nothing yet.
     pub(crate) raised: Vec<Raised>,
 }
 
-// The number of a visit that never was.
-const NEVER: u64 = u64::MAX;
-
-// Nothing was learned.
-const NOTHING: Raised = Raised {
-    edges: 0,
-    depth: 0,
-    visit: NEVER,
-};
-
-// The number of the visit at a depth.
-fn visit_at(visits: &[u64], depth: usize) -> u64
-    ensures { result ≡ slice_index_or visits.now depth last_visit }
+// Whether all nodes of a list are on a path.
+fn are_on(path: &[usize], nodes: &[usize]) -> bool
+    ensures { result ≡ are_on path.now nodes.now }
 {
-    match visits.get(depth) {
-        Some(visit) => *visit,
-        None => NEVER,
+    nodes.iter().all(|node| path.contains(node))
+}
+
+// The edges of what was learned, where its blockers are on the path.
+fn edges_by(path: &[usize], found: &Raised) -> u8
+    ensures { result ≡ raise_at path.now found.now }
+{
+    if are_on(path, found.blockers.as_slice()) {
+        found.edges
+    } else {
+        0
     }
 }
 
-// What was learned of a place.
-fn found_at(raised: &[Raised], place: usize) -> Raised
-    ensures { result ≡ slice_index_or raised.now place no_raise }
+// The edges of what was learned of a place.
+fn edges_at(path: &[usize], raised: &[Raised], place: usize) -> u8
+    ensures { result ≡ raised_at path.now raised.now place }
 {
     match raised.get(place) {
-        Some(found) => *found,
-        None => NOTHING,
+        Some(found) => edges_by(path, found),
+        None => 0,
     }
 }
 
-// The edges of what was learned, where its visit is on the path.
-fn edges_by(visits: &[u64], found: Raised) -> u8
-    ensures { result ≡ raise_at visits.now found }
+// The blockers of what was learned of a place.
+fn blockers_at(raised: &[Raised], place: usize) -> &[usize]
+    ensures { result.now ≡ (slice_index_or raised.now place no_raise).blockers }
 {
-    if found.visit == NEVER || visit_at(visits, found.depth) != found.visit {
-        return 0;
-    }
-    found.edges
-}
-
-// What is learned at the visit at a depth.
-fn learned(visits: &[u64], depth: usize, edges: u8) -> Raised
-    ensures { result ≡ record { edges = edges; depth = depth; visit = slice_index_or visits.now depth last_visit } }
-{
-    Raised {
-        edges,
-        depth,
-        visit: visit_at(visits, depth),
+    match raised.get(place) {
+        Some(found) => found.blockers.as_slice(),
+        None => &[],
     }
 }
 
-// Puts what was learned of a place at it, if there is room for that place.
+// Puts what was learned of a place at it, if there is room for that place. What was there is let go.
 fn put(raised: &mut Vec<Raised>, place: usize, found: Raised)
     ensures { raised.new.items ≡ slice_set raised.old.items place found }
 {
@@ -95,12 +75,26 @@ fn put(raised: &mut Vec<Raised>, place: usize, found: Raised)
     }
 }
 
+// Nothing learned yet, of so many places.
+fn unlearned(alloc: Global, count: usize) -> Mem<Vec<Raised>>
+    ensures { IfOk result (λ raised. (n : ℕ) → slice_index_or raised.items n no_raise ≡ no_raise) }
+{
+    let mut raised = Vec::with_capacity(alloc, count)?;
+    for _place in 0..count {
+        raised.push(Raised {
+            edges: 0,
+            blockers: List::new(alloc),
+        })?;
+    }
+    Ok(raised)
+}
+
 // Makes room for what is learned of so many places.
 fn ready(alloc: Global, raised: &mut Vec<Raised>, count: usize) -> Mem<()>
     ensures { OnOk result ((n : ℕ) → slice_index_or raised.new.items n no_raise ≡ slice_index_or raised.old.items n no_raise) }
 {
     if raised.is_empty() {
-        *raised = vec![in alloc; NOTHING; count]?;
+        *raised = unlearned(alloc, count)?;
     }
     Ok(())
 }
@@ -113,8 +107,6 @@ impl Way {
         Way {
             alloc,
             path: Vec::new(alloc),
-            visits: Vec::new(alloc),
-            next: 0,
             raised: Vec::new(alloc),
         }
     }
@@ -126,44 +118,26 @@ impl Way {
         self.path.contains(&node)
     }
 
-    /// Where a node is on the path.
-    pub(crate) fn depth_of(&self, node: usize) -> Option<usize>
-        ensures { IfSome result (λ depth. is_on (take (depth + 1) self.now.path.items) node ≡ true) }
-    {
-        for (depth, other) in self.path.iter().enumerate() {
-            if *other == node {
-                return Some(depth);
-            }
-        }
-        None
-    }
-
-    /// At which depth of the path it was learned how far a place is.
-    pub(crate) fn learned_at(&self, place: usize) -> usize
-        ensures { result ≡ (slice_index_or self.now.raised.items place no_raise).depth }
-    {
-        found_at(self.raised.as_slice(), place).depth
-    }
-
-    /// How many edges a place is away at least, as was learned along the path.
+    /// How many edges a place is away at least, as was learned, where its blockers are on the path.
     pub(crate) fn edges(&self, place: usize) -> u8
-        ensures { result ≡ raised_at self.now.visits.items self.now.raised.items place }
+        ensures { result ≡ raised_at self.now.path.items self.now.raised.items place }
     {
-        edges_by(
-            self.visits.as_slice(),
-            found_at(self.raised.as_slice(), place),
-        )
+        edges_at(self.path.as_slice(), self.raised.as_slice(), place)
     }
 
-    /// Learns how many edges a place is away at least, one of so many. It is so as long as the path stays up to a depth.
-    pub(crate) fn learn(&mut self, count: usize, place: usize, depth: usize, edges: u8) -> Mem<()>
+    /// The blockers of what was learned of a place.
+    pub(crate) fn blockers(&self, place: usize) -> &[usize]
+        ensures { result.now ≡ (slice_index_or self.now.raised.items place no_raise).blockers }
+    {
+        blockers_at(self.raised.as_slice(), place)
+    }
+
+    /// Learns how far a place is, one of so many, in place of what was learned of it before. The error is want of memory.
+    pub(crate) fn learn(&mut self, count: usize, place: usize, found: Raised) -> Mem<()>
         ensures path { self.new.path ≡ self.old.path }
-        ensures visits { self.new.visits ≡ self.old.visits }
-        ensures next { self.new.next ≡ self.old.next }
-        ensures raised { OnOk result (IsLearned self.old.visits.items self.old.raised.items self.new.raised.items place depth edges) }
+        ensures raised { OnOk result (IsLearned self.old.raised.items self.new.raised.items place found) }
     {
         ready(self.alloc, &mut self.raised, count)?;
-        let found = learned(self.visits.as_slice(), depth, edges);
         put(&mut self.raised, place, found);
         Ok(())
     }
@@ -171,24 +145,17 @@ impl Way {
     /// Enters a node.
     pub(crate) fn enter(&mut self, node: usize) -> Mem<()>
         ensures path { OnOk result (self.new.path.items ≡ self.old.path.items ++ node ∷ []) }
-        ensures visits { OnOk result (self.new.visits.items ≡ self.old.visits.items ++ self.old.next ∷ []) }
-        ensures next { OnOk result (IsNext self.old.next self.new.next) }
         ensures raised { self.new.raised ≡ self.old.raised }
     {
         self.path.push(node)?;
-        self.visits.push(self.next)?;
-        self.next = self.next.saturating_add(1);
         Ok(())
     }
 
     /// Leaves the last node.
     pub(crate) fn leave(&mut self)
         ensures path { (front : List ℕ) (node : ℕ) → self.old.path.items ≡ front ++ node ∷ [] → self.new.path.items ≡ front }
-        ensures visits { (front : List ℕ) (visit : ℕ) → self.old.visits.items ≡ front ++ visit ∷ [] → self.new.visits.items ≡ front }
-        ensures next { self.new.next ≡ self.old.next }
         ensures raised { self.new.raised ≡ self.old.raised }
     {
         self.path.pop();
-        self.visits.pop();
     }
 }

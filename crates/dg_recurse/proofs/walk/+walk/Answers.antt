@@ -5,7 +5,7 @@ use Rattle.dg_recurse.specs.Rows.{objects_of, joined, enclosed}
 use Rattle.dg_recurse.specs.Written.{edge_text, column_text, child_at, object_at, rows_behind}
 use Rattle.dg_recurse.proofs.RowLaws.{objects_joined, longer, bare_enclosed}
 use Rattle.dg_recurse.proofs.WalkLaws.{then_joined, none_joined, whole_passes, room_passes, all_parts, row_is, none_more, first_is, first_passes, array_is}
-use Rattle.dg_recurse.proofs.WayLaws.{entered, far_child, kept_then, left_again}
+use Rattle.dg_recurse.proofs.WayLaws.{still_sound, far_child, kept_then, left_again}
 use Rattle.dg_recurse.proofs.walk.+walk.Goals as goal
 
 -- ---- a node to which an edge leads
@@ -15,17 +15,15 @@ child_row-row-requires t c = (
   omega arith,
   (
     c.requires.near,
-    entered c.args.columns.now c.may_show.new.way c.enter.new.self c.args.node c.in_ok-enter.ensures.path c.in_ok-enter.ensures.visits c.in_ok-enter.ensures.next c.in_ok-enter.ensures.raised c.in_ok-may_show.ensures.kept.sound,
+    still_sound c.args.columns.now c.may_show.new.way c.enter.new.self c.in_ok-enter.ensures.raised c.in_ok-may_show.ensures.kept.sound,
   ),
 )
 
 pub child_row-returns-clause-kept : goal.child_row-returns-clause-kept
 child_row-returns-clause-kept t c =
     kept_then c.args.columns.now c.args.way.now c.may_show.new.way c.leave.new.self c.in_ok-may_show.ensures.kept (
-    left_again c.args.columns.now c.may_show.new.way c.enter.new.self c.row.new.way c.leave.new.self c.args.node c.may_show.new.way.next c.in_ok-enter.ensures.path c.in_ok-enter.ensures.visits c.in_ok-out.ensures.kept
+    left_again c.args.columns.now c.may_show.new.way c.enter.new.self c.row.new.way c.leave.new.self c.args.node c.in_ok-enter.ensures.path c.in_ok-out.ensures.kept
     c.leave.ensures.path
-    c.leave.ensures.visits
-    c.leave.ensures.next
     c.leave.ensures.raised
     )
 

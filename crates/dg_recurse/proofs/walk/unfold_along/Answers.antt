@@ -4,12 +4,12 @@ use Rattle.dg_recurse.specs.Rows.{row_text}
 use Rattle.dg_recurse.specs.Columns.{pieces_at}
 use Rattle.dg_recurse.specs.Written.{row_at}
 use Rattle.dg_recurse.proofs.UnfoldLaws.{rows_are}
-use Rattle.dg_recurse.proofs.WayLaws.{entered, left_again, none_again}
+use Rattle.dg_recurse.proofs.WayLaws.{still_sound, left_again, none_again}
 use Rattle.dg_recurse.proofs.walk.unfold_along.Goals as goal
 
 pub row-requires-clause-sound : goal.row-requires-clause-sound
 row-requires-clause-sound c =
-    entered c.args.columns.now c.args.way.now c.enter.new.self c.args.node c.in_ok-enter.ensures.path c.in_ok-enter.ensures.visits c.in_ok-enter.ensures.next c.in_ok-enter.ensures.raised c.requires.way.sound
+    still_sound c.args.columns.now c.args.way.now c.enter.new.self c.in_ok-enter.ensures.raised c.requires.way.sound
 
 pub returns-in_err-out-clause-too_large : goal.returns-in_err-out-clause-too_large
 returns-in_err-out-clause-too_large c = λ pieces are e.
@@ -32,9 +32,7 @@ returns-clause-text c = λ pieces are.
 pub returns-clause-way : goal.returns-clause-way
 returns-clause-way c =
     none_again c.args.columns.now c.args.way.now c.leave.new.self c.requires.way (
-    left_again c.args.columns.now c.args.way.now c.enter.new.self c.row.new.way c.leave.new.self c.args.node c.args.way.now.next c.in_ok-enter.ensures.path c.in_ok-enter.ensures.visits c.in_ok-out.ensures.kept
+    left_again c.args.columns.now c.args.way.now c.enter.new.self c.row.new.way c.leave.new.self c.args.node c.in_ok-enter.ensures.path c.in_ok-out.ensures.kept
     c.leave.ensures.path
-    c.leave.ensures.visits
-    c.leave.ensures.next
     c.leave.ensures.raised
     )

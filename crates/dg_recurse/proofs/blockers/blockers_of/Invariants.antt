@@ -1,0 +1,7 @@
+use Rattle.std.proofs.Common.{◌≡◌, true, take}
+use Rattle.dg_recurse.specs.Ways.{are_far_from}
+use Rattle.dg_recurse.proofs.blockers.blockers_of.Given as goal
+
+-- what it rests on that those to which the columns so far lead are far is there
+abbrev pub invariant-loop-column : goal.invariant-loop-column
+invariant-loop-column l = are_far_from (take l.column-index l.columns) l.reach l.blockers l.way.raised.items l.edges l.place ≡ true
