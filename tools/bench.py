@@ -4,10 +4,10 @@
     bench.py [--program PATH] [--quick] [--sizes N,N,N] [--only WORDS,..] [--repeat N] [--plain]
 
 It prints a table: for each workload and size how many seconds of a processor the program took, how many microseconds
-a request (`begin`, `mutate`, `query`, `upsert`, `commit` and `discard` are one each) and a unit, its peak memory, by how
+a request (`alter`, `begin`, `mutate`, `query`, `upsert`, `commit` and `discard` are one each) and a unit, its peak memory, by how
 many bytes a request that is above the peak over what is needed first, and the exponent by which the time grew since the
 size before (1 is as the size, 2 as its square). A size is a number of units: changes of a load, commits that are tried,
-reads, sign-ups, nodes that are marked. Behind it stands a table of questions, whose names begin with `query`: for each
+reads, sign-ups, nodes that are marked, triples over which an alter adds an index. Behind it stands a table of questions, whose names begin with `query`: for each
 number of nodes how often a question was asked in one transaction, how many bytes an answer has, how many microseconds a
 query took, by how many KiB the peak is above that over the data alone, which is what one query takes, and the exponent
 by which the time grew.
@@ -50,7 +50,7 @@ from typing import BinaryIO, NamedTuple, Optional
 
 from bench_questions import QUESTIONS, Question
 from bench_steps import EMAIL, INDEXED, LARGE, MARK, NAME, Block, Step, Steps, Triple, Workload
-from bench_steps import mark_all, name_of, names, queries, sign_up, transactions, upserts
+from bench_steps import adding, mark_all, name_of, names, queries, sign_up, transactions, upserts
 
 PROGRAM = Path(__file__).resolve().parent.parent / "crates" / "dgraph" / "out" / "dgraph"
 SIZES = [10_000, 30_000, 100_000]
@@ -145,6 +145,7 @@ WORKLOADS = [
         lambda size: transactions(names(size), LARGE),
     ),
     *(load(f"{index} index", *INDEXED[index], each, index) for index in INDEXED for each in EACH),
+    *(adding(index) for index in INDEXED),
 ]
 
 
@@ -312,6 +313,13 @@ class Sqlite:
     def do(self, step: Step) -> None:
         getattr(self, step.verb)(step)
 
+    def alter(self, step: Step) -> None:
+        if step.adds == "term":
+            rows = self.base.execute("select p, o, s from triple").fetchall()
+            self.file(Triple(s, p, o) for p, o, s in rows)
+        else:
+            self.base.execute(INDEX)
+
     def begin(self, step: Step) -> None:
         self.clock += 1
         self.starts[step.session] = self.clock
@@ -364,8 +372,12 @@ class Sqlite:
         self.base.executemany("insert or ignore into triple values (?, ?, ?)", rows)
         if self.work.index == "term":
             # No workload sets a second text for a node, whose words would have to go.
-            words = ((it.predicate, word, it.subject) for it in triples for word in str(it.object).casefold().split())
-            self.base.executemany("insert or ignore into word values (?, ?, ?)", words)
+            self.file(triples)
+
+    def file(self, triples: Iterable[Triple]) -> None:
+        """Puts the words of triples into their table."""
+        words = ((it.predicate, word, it.subject) for it in triples for word in str(it.object).casefold().split())
+        self.base.executemany("insert or ignore into word values (?, ?, ?)", words)
 
 
 def in_sqlite(work: Workload, size: int) -> Figures:

@@ -5,6 +5,7 @@ from __future__ import annotations
 
 import json
 import random
+import re
 from collections.abc import Callable, Iterable, Iterator
 from dataclasses import dataclass
 from itertools import islice
@@ -67,15 +68,20 @@ class Block(NamedTuple):
 
 
 class Step(NamedTuple):
-    """A request: a mutation's triples, what a query asks, or an upsert block."""
+    """A request: a mutation's triples, what a query asks, an upsert block, or the definitions of an alter, which adds an
+    index."""
 
     verb: str
     session: int
     triples: tuple[Triple, ...] = ()
     asked: Optional[Asked] = None
     block: Optional[Block] = None
+    schema: str = ""
+    adds: str = ""
 
     def frame(self) -> bytes:
+        if self.verb == "alter":
+            return f"alter {len(self.schema)}\n{self.schema}\n".encode()
         if self.verb == "mutate":
             body = "\n".join(triple.text() for triple in self.triples)
         elif self.asked:
@@ -117,6 +123,17 @@ def transactions(triples: Iterable[Triple], each: int) -> Steps:
         yield Step("begin", 1)
         yield Step("mutate", 1, batch)
         yield Step("commit", 1)
+
+
+def adding(index: str) -> Workload:
+    """An alter that adds an index to a predicate whose triples are there."""
+    schema, triples = INDEXED[index]
+    return Workload(
+        f"an alter that adds {index}",
+        re.sub(r" @[a-z]+(\([a-z]+\))?", "", schema),
+        lambda size: iter([Step("alter", 0, schema=schema, adds=index)]),
+        lambda size: transactions(triples(size), LARGE),
+    )
 
 
 def queries(questions: Iterable[Asked]) -> Steps:

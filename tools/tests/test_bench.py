@@ -46,8 +46,9 @@ class Workloads(unittest.TestCase):
                 self.assertEqual(bool(refused), work.overlaps)
                 steps = list(work.measured(SIZE))
                 changes = sum(len(step.triples) for step in steps)
-                others = sum(step.verb in ("query", "upsert") for step in steps)
-                self.assertEqual(changes + others, 1 if work.name == "an upsert over all nodes" else SIZE)
+                others = sum(step.verb in ("query", "upsert", "alter") for step in steps)
+                is_one = work.name == "an upsert over all nodes" or work.name.startswith("an alter that adds ")
+                self.assertEqual(changes + others, 1 if is_one else SIZE)
 
     def test_an_older_moment_is_read(self) -> None:
         work = next(work for work in bench.WORKLOADS if work.is_older)
@@ -66,8 +67,17 @@ class Workloads(unittest.TestCase):
                     base.do(step)
                 there = set(base.base.execute("select p, s, o from triple"))
                 self.assertEqual(there, stored(machine.graph_at(machine.timestamp)))
-                texts = {(p, word, s) for p, s, text in there for word in str(text).split() if work.index == "term"}
+                has_terms = work.index == "term" or work.name == "an alter that adds term"
+                texts = {(p, word, s) for p, s, text in there for word in str(text).split() if has_terms}
                 self.assertEqual(set(base.base.execute("select p, w, s from word")), texts)
+
+    def test_an_alter_adds_to_what_is_there(self) -> None:
+        for work in (work for work in bench.WORKLOADS if work.name.startswith("an alter that adds ")):
+            (step,) = work.measured(SIZE)
+            self.assertEqual(work.name.split()[-1], step.adds)
+            self.assertEqual((work.schema, step.schema), (bench_steps.adding(step.adds).schema, bench_steps.INDEXED[step.adds][0]))
+            self.assertNotIn("@", work.schema)
+            self.assertEqual(step.frame(), f"alter {len(step.schema)}\n{step.schema}\n".encode())
 
     def test_words_are_terms(self) -> None:
         words = bench_steps.WORDS

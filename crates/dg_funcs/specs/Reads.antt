@@ -1,14 +1,15 @@
 -- How many lists a function reads at a root, where the schema's indexes tell that.
-use Rattle.std.specs.Prelude.{ℕ, Bool, ◌&&◌, List, [], ◌∷◌, Option, Some, None, if◌then◌else◌, length}
+use Rattle.std.specs.Prelude.{ℕ, Bool, false, ◌&&◌, List, [], ◌∷◌, Option, Some, None, if◌then◌else◌, length}
 use Rattle.std.specs.List.{list_any, list_all}
-use Rattle.dg_values.specs.Order.{tokenizer_cmp, value_cmp}
+use Rattle.dg_values.specs.Order.{tokenizer_cmp, value_cmp, text_cmp}
 use Rattle.dg_values.specs.Ascending.{has, ascending}
 use Rattle.dg_values.specs.declared.kind.Tokenizer.{Tokenizer}
 use Rattle.dg_values.specs.declared.kind.Tokenizer.TheVariants as tokenizers
 use Rattle.dg_values.specs.declared.value.Value.{Value}
 use Rattle.dg_schema.specs.declared.definition.PredDef.{PredDef}
 use Rattle.dg_schema.specs.Definitions.{definition_of}
-use Rattle.dg_graph.specs.Lookups.{is_so_by}
+use Rattle.dg_tokens.specs.Terms.{terms_of}
+use Rattle.dg_graph.specs.Lookups.{is_so_by, is_indexed_by}
 use Rattle.dg_parse.specs.declared.query.CmpOp.{CmpOp}
 use Rattle.dg_parse.specs.declared.query.CmpOp.TheVariants as ops
 use Rattle.dg_check.specs.declared.parts.Of.{Of}
@@ -39,7 +40,13 @@ abbrev pub reads_of_part : List PredDef → CmpOp → List Value → Of → Opti
 reads_of_part schema op values (part.Pred p) = reads_of_values schema p values op
 reads_of_part schema op values of = None
 
--- how many lists are read for a function: said of `eq` by an index of whole values, and of nothing else
+-- for `anyofterms` by an index of terms a list for each distinct term
+abbrev pub reads_of_terms : List PredDef → List ℕ → List ℕ → Option ℕ
+reads_of_terms schema p text = if is_indexed_by schema p tokenizers.Term then Some (length (ascending text_cmp (terms_of text))) else None
+
+-- how many lists are read for a function: none for `uid`; told of `eq` by an index of whole values and of `anyofterms` by one of terms
 abbrev pub lists_read : List PredDef → Func → Option ℕ
+lists_read schema (funcs.Uid names) = Some 0
 lists_read schema (funcs.Cmp op of kind values) = reads_of_part schema op values of
+lists_read schema (funcs.Terms false p text) = reads_of_terms schema p text
 lists_read schema f = None

@@ -1,5 +1,5 @@
 // `anyofterms` by an index of terms.
-ghost use Rattle.std.specs.Prelude.{◌≡◌, true, false, map, IfOk};
+ghost use Rattle.std.specs.Prelude.{◌≡◌, ◌+◌, true, false, length, map, IfOk, IfSome, OnOk};
 ghost use Rattle.dg_values.specs.Order.{text_cmp};
 ghost use Rattle.dg_values.specs.Ascending.{ascending};
 ghost use Rattle.dg_values.specs.declared.kind.Tokenizer.TheVariants as tokenizers;
@@ -8,6 +8,7 @@ ghost use Rattle.dg_tokens.specs.Terms.{terms_of};
 ghost use Rattle.dg_graph.specs.Lookups.{is_indexed_by};
 ghost use Rattle.dg_check.specs.declared.parts.Func.TheVariants as funcs;
 ghost use Rattle.dg_funcs.specs.Equal.{filed_nodes};
+ghost use Rattle.dg_funcs.specs.Reads.{reads_of_terms};
 ghost use Rattle.dg_funcs.specs.Roots.{root_nodes};
 
 use crate::equal::filed;
@@ -49,7 +50,8 @@ fn by_terms<S: Snapshot, L: Ledger>(
     reads: &mut Steps<L>,
 ) -> Mem<Uids>
     requires tokenizer { is_indexed_by (S.declared snap.now) p.now tokenizers.Term ≡ true }
-    ensures { IfOk result (λ uids. uids ≡ filed_nodes (S.graph snap.now) p.now tokenizers.Term (map (λ t. values.Text t) (ascending text_cmp (terms_of text.now)))) }
+    ensures nodes { IfOk result (λ uids. uids ≡ filed_nodes (S.graph snap.now) p.now tokenizers.Term (map (λ t. values.Text t) (ascending text_cmp (terms_of text.now)))) }
+    ensures reads { OnOk result (reads.new ≡ reads.old + length (ascending text_cmp (terms_of text.now))) }
 {
     let wanted = term_values(alloc, text)?;
     filed(alloc, snap, p, Tokenizer::Term, wanted.as_slice(), reads)
@@ -67,7 +69,8 @@ pub(crate) fn root_of_any_term<S: Snapshot, L: Ledger>(
     reads: &mut Steps<L>,
 ) -> Mem<Uids>
     requires any { func.now ≡ funcs.Terms false p.now text.now }
-    ensures { IfOk result (λ uids. uids ≡ root_nodes (S.graph snap.now) vars.now.variables func.now) }
+    ensures nodes { IfOk result (λ uids. uids ≡ root_nodes (S.graph snap.now) vars.now.variables func.now) }
+    ensures reads { IfSome (reads_of_terms (S.declared snap.now) p.now text.now) (λ n. OnOk result (reads.new ≡ reads.old + n)) }
 {
     if is_indexed(snap, p, Tokenizer::Term) {
         by_terms(alloc, snap, p, text, reads)

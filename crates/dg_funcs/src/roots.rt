@@ -307,7 +307,7 @@ fn root_of_span<S: Snapshot, L: Ledger>(
 /// | `le`, `lt`, `ge`, `gt` of `count` to one value, and `between`, with `@count` | one for each number that stands so; they tell alone |
 ///
 /// For all else each node that can pass is asked: each with an object of the predicate, or with a value of the variable. How many
-/// lists are read is promised for `eq` by exact, hash, int or bool alone.
+/// lists are read is promised for `uid`, for `eq` by exact, hash, int or bool, and for `anyofterms` by term.
 pub fn root<S: Snapshot, L: Ledger>(
     alloc: Global,
     snap: &S,

@@ -7,6 +7,7 @@ use dg_values::{List, Mem, OutOfMemory, Str};
 use std::alloc::Global;
 
 // How a node is unfolded: within which limit, how many nodes deep, and from which place.
+#[derive(Clone, Copy)]
 struct Start {
     limit: usize,
     depth: u32,
@@ -15,8 +16,8 @@ struct Start {
 
 // The start of a field, as `1000 3 0`: the depth is 1 to 32.
 fn start_of(field: &str) -> Option<Start>
-    ensures { IfSome result (λ start. 1 ≤ start.depth) }
-    ensures { IfSome result (λ start. start.depth ≤ 32) }
+    ensures some { IfSome result (λ start. 1 ≤ start.depth) }
+    ensures most { IfSome result (λ start. start.depth ≤ 32) }
 {
     let (limit, rest) = field.split_once(' ')?;
     let (depth, node) = rest.split_once(' ')?;
@@ -77,8 +78,8 @@ fn edge_of(alloc: Global, field: &str) -> Mem<Option<Column>> {
 
 // The row of a node, or what is wrong.
 fn row_of(alloc: Global, columns: &[Column], count: usize, start: &Start) -> Mem<String>
-    requires { 1 ≤ start.now.depth }
-    requires { start.now.depth ≤ 32 }
+    requires some { 1 ≤ start.now.depth }
+    requires most { start.now.depth ≤ 32 }
 {
     let reach = Reach::of(alloc, columns, count, start.depth)?;
     match unfold(alloc, columns, &reach, start.limit, start.depth, start.node) {

@@ -10,12 +10,12 @@ use Rattle.dg_funcs.specs.Roots.{root_nodes}
 use Rattle.dg_funcs.proofs.TermLaws.{any_term_root}
 use Rattle.dg_funcs.proofs.anyterms.root_of_any_term.Goals as goal
 
-pub returns-then-is_indexed : goal.returns-then-is_indexed
-returns-then-is_indexed g c =
+pub returns-then-is_indexed-clause-nodes : goal.returns-then-is_indexed-clause-nodes
+returns-then-is_indexed-clause-nodes g c =
     let graph = g.S.Snapshot.graph c.args.snap.now in
     let vars = c.args.vars.now.variables in
     let p = c.args.p.now in
     let back = sym c.requires.any in
     let e : filed_nodes graph p tokenizers.Term (map (λ t. Text t) (ascending text_cmp (terms_of c.args.text.now))) ≡ root_nodes graph vars c.args.func.now =
     any_term_root graph p vars c.args.text.now ∙ λ i. root_nodes graph vars (back i) in
-    subst (λ (ys : List ℕ). IfOk c.by_terms.result (λ uids. uids ≡ ys)) e c.by_terms.ensures
+    subst (λ (ys : List ℕ). IfOk c.by_terms.result (λ uids. uids ≡ ys)) e c.by_terms.ensures.nodes
