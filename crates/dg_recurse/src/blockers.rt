@@ -1,4 +1,4 @@
-// What it rests on that places are so far: the nodes of the path that close nearer ways.
+// Blockers: the nodes of the path that close nearer ways from a place.
 ghost use Rattle.std.specs.Prelude.{◌≡◌, true, [], IfOk, OnOk};
 ghost use Rattle.dg_recurse.specs.Unfolding.{is_on};
 ghost use Rattle.dg_recurse.specs.Ways.{Covers, are_on, is_far, are_far, are_far_from};
@@ -29,7 +29,8 @@ fn add_all(blockers: &mut List<usize>, nodes: &[usize]) -> Mem<()>
     Ok(())
 }
 
-// Adds what it rests on that a node is on the path or so far: the node itself, what it rests on that this was learned, or nothing.
+// Adds the blockers of a node that is on the path or so far: itself where it is on the path, those of what was learned of it, or
+// none where it is so far on any path.
 fn add_for(reach: &Reach, way: &Way, edges: u8, node: usize, blockers: &mut List<usize>) -> Mem<()>
     requires { is_far reach.now way.now.path.items way.now.raised.items edges node ≡ true }
     ensures kept { OnOk result (Covers blockers.old blockers.new) }
@@ -44,7 +45,7 @@ fn add_for(reach: &Reach, way: &Way, edges: u8, node: usize, blockers: &mut List
     add_all(blockers, way.blockers(node))
 }
 
-// Adds what it rests on that each node of a list is on the path or so far.
+// Adds the blockers of all nodes of a list, each of which is on the path or so far.
 fn add_for_all(
     reach: &Reach,
     way: &Way,
@@ -62,8 +63,8 @@ fn add_for_all(
     Ok(())
 }
 
-/// What it rests on that each node to which columns lead from a place is on the path or so far: each is so on whatever path these
-/// nodes are. None of them stands there twice, and all are on the path. The error is want of memory.
+/// The blockers of all nodes to which columns lead from a place, each of which is on the path or so far: so it is on whatever path
+/// has these blockers on it. None of them stands there twice, and all are on the path. The error is want of memory.
 pub fn blockers_of(
     columns: &[Column],
     reach: &Reach,

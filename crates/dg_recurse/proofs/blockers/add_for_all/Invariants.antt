@@ -2,6 +2,6 @@ use Rattle.std.proofs.Common.{◌≡◌, true, take}
 use Rattle.dg_recurse.specs.Ways.{Covers, are_far}
 use Rattle.dg_recurse.proofs.blockers.add_for_all.Given as goal
 
--- what it rests on that those so far are far is there
+-- the blockers of those so far are there
 abbrev pub invariant-loop-node : goal.invariant-loop-node
 invariant-loop-node l = Covers l.initial.blockers l.blockers × (are_far l.reach l.blockers l.way.raised.items l.edges (take l.node-index l.nodes) ≡ true)
