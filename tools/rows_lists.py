@@ -701,6 +701,11 @@ def read_row(data, answer):
     row(f"keybytes read {data.hex() or 'none'}", answer)
 
 
+# Keys whose last byte says something of a node, a number or a moment.
+CUT = ("data name 1", "reverse name 258", "count name 2", "rcount name 3", "index name int int:-2")
+CUT += tuple(f"index name {part} time:1970-01-01T00:00:00.000000001Z" for part in ("year", "month", "day", "hour"))
+
+
 def no_keys():
     """Bytes that no key has, beside some that one has: a piece is added, missing or out of its range."""
     front, number = b"a\0", bytes(8)
@@ -720,6 +725,7 @@ def no_keys():
         yield time + signed(0) + b"\xff\xff\xff\xff"
         first, last = (int.from_bytes(time_bytes(end)[:8], "big") - 2**63 for end in ENDS)
         yield from (time + signed(secs) + bytes(4) for secs in (first - 1, last + 1, -(2**63)))
+    yield from (bytes_of_key(key)[:-1] for key in CUT)
 
 
 def changed_bytes(data):

@@ -162,12 +162,16 @@ class Statuses(InFolder):
 
     def test_a_program_that_is_always_done(self) -> None:
         words = ["bash", TOP / ".ci" / "statuses", self.executable("#!/bin/sh\nexit 0\n")]
-        done = subprocess.run(words, capture_output=True, encoding="utf-8", timeout=SECONDS)
+        done = subprocess.run(words, capture_output=True, encoding="utf-8", timeout=3 * SECONDS)
         self.assertEqual(done.returncode, 1)
         for what, status in (("a folder as the input", 1), ("no room for the output", 2), ("the words 'walk'", 3),
                              ("no verb", 4), ("an input that is too long", 5), ("the first load of 3,000 nodes", 0),
                              ("a product that is too large for memory", 0),
-                             ("ten thousand fields, ten thousand blocks and forty thousand sums", 0)):
+                             ("ten thousand fields, ten thousand blocks and forty thousand sums", 0),
+                             ("a sum of a hundred thousand greatest numbers", 0),
+                             ("twenty thousand blocks that feed each other, and in a circle", 0),
+                             ("ten thousand nodes at the ends of an edge", 0), ("long texts under an index by terms", 0),
+                             ("long texts under an index by trigrams", 0)):
             self.assertIn(f"{what}: status 0, and not {status}; it said '', and wrote '", done.stdout)
         self.assertIn("statuses: 1 passed, ", done.stdout)
 
