@@ -60,9 +60,17 @@ fn add_named(found: &mut Vec<u64>, vars: &Vars, name: Node) -> Mem<()>
     Ok(())
 }
 
+// A set itself, which is in order.
+fn as_it_stands(set: &Uids) -> &Uids
+    ensures { result.now ≡ ascending nat_cmp set.now }
+{
+    let _nodes = set.as_slice();
+    set
+}
+
 // The set of the variable at a place, if there is one.
 fn set_at(vars: &Vars, place: usize) -> Option<&Uids>
-    ensures { IfSome (option_copied result) (λ uids. uids ≡ ascending nat_cmp (nodes_of vars.now.variables place)) }
+    ensures { IfSome (option_copied result) (λ uids. uids ≡ nodes_of vars.now.variables place) }
 {
     match vars.variables.as_slice().get(place) {
         Some(v) => Some(&v.nodes),
@@ -75,7 +83,10 @@ pub(crate) fn sole_set<'a>(vars: &'a Vars, names: &[Node]) -> Option<&'a Uids>
     ensures { IfSome (option_copied result) (λ uids. uids ≡ ascending nat_cmp (named_nodes vars.now.variables names.now)) }
 {
     match names {
-        [Node::Var(place)] => set_at(vars, *place),
+        [Node::Var(place)] => match set_at(vars, *place) {
+            Some(set) => Some(as_it_stands(set)),
+            None => None,
+        },
         _ => None,
     }
 }

@@ -14,18 +14,17 @@ use Rattle.dg_funcs.specs.Tests.{has_asked}
 use Rattle.dg_funcs.proofs.TestLaws.{has_terms_ascending}
 use Rattle.dg_funcs.proofs.held.held.Goals as goal
 
-pub returns-in_ok-wanted-in-Uid : goal.returns-in_ok-wanted-in-Uid
-returns-in_ok-wanted-in-Uid g c =
+pub returns-in-Uid : goal.returns-in-Uid
+returns-in-Uid g c =
     let graph = g.S.Snapshot.graph c.args.snap.now in
     let vars = c.args.vars.now.variables in
     let nodes = c.args.nodes.now in
     let names = c.in-Uid.names in
     let back = sym c.in-Uid.is in
-    let w : c.in_ok-wanted-in-Uid.wanted ≡ ascending nat_cmp (named_nodes vars names) =
-    c.in_ok-wanted-in-Uid.ensures ∙ λ i. ascending nat_cmp (named_nodes vars (c.as_slice.ensures i)) in
-    let e : common nodes c.in_ok-wanted-in-Uid.wanted ≡ filter (λ n. holds_at graph vars n c.args.func.now) nodes =
-    ap (common nodes) w ∙ ((λ i. filter (λ n. ascending_has nat_cmp nat_order (named_nodes vars names) n i) nodes) ∙ λ i. filter (λ n. holds_at graph vars n (back i)) nodes) in
-    subst (λ (ys : List ℕ). IfOk c.and.result (λ uids. uids ≡ ys)) e c.and.ensures
+    let e : common nodes (ascending nat_cmp (named_nodes vars c.as_slice.result.now)) ≡ filter (λ n. holds_at graph vars n c.args.func.now) nodes =
+    (λ i. common nodes (ascending nat_cmp (named_nodes vars (c.as_slice.ensures i))))
+    ∙ ((λ i. filter (λ n. ascending_has nat_cmp nat_order (named_nodes vars names) n i) nodes) ∙ λ i. filter (λ n. holds_at graph vars n (back i)) nodes) in
+    subst (λ (ys : List ℕ). IfOk c.held_named.result (λ uids. uids ≡ ys)) e c.held_named.ensures
 
 pub returns-in_ok-asked-in-Terms : goal.returns-in_ok-asked-in-Terms
 returns-in_ok-asked-in-Terms g c =
@@ -52,18 +51,16 @@ returns-in-Regexp g c =
     ∙ λ i. filter (λ n. holds_at graph vars n (back i)) nodes in
     subst (λ (ys : List ℕ). IfOk c.held_matching.result (λ uids. uids ≡ ys)) e c.held_matching.ensures
 
-pub returns-in_ok-ends-in-UidIn : goal.returns-in_ok-ends-in-UidIn
-returns-in_ok-ends-in-UidIn g c =
+pub returns-in-UidIn : goal.returns-in-UidIn
+returns-in-UidIn g c =
     let graph = g.S.Snapshot.graph c.args.snap.now in
     let vars = c.args.vars.now.variables in
     let nodes = c.args.nodes.now in
     let names = c.in-UidIn.uids in
     let edge = c.in-UidIn.edge in
     let back = sym c.in-UidIn.is in
-    let w : c.in_ok-ends-in-UidIn.ends ≡ ascending nat_cmp (named_nodes vars names) =
-    c.in_ok-ends-in-UidIn.ensures ∙ λ i. ascending nat_cmp (named_nodes vars (c.as_slice-in-UidIn.ensures i)) in
-    let e : filter (λ n. list_any (has nat_cmp c.in_ok-ends-in-UidIn.ends) (nodes_along graph edge n)) nodes ≡ filter (λ n. holds_at graph vars n c.args.func.now) nodes =
-    (λ i. filter (λ n. list_any (has nat_cmp (w i)) (nodes_along graph edge n)) nodes)
+    let e : filter (λ n. list_any (has nat_cmp (ascending nat_cmp (named_nodes vars c.as_slice-in-UidIn.result.now))) (nodes_along graph edge n)) nodes ≡ filter (λ n. holds_at graph vars n c.args.func.now) nodes =
+    (λ i. filter (λ n. list_any (has nat_cmp (ascending nat_cmp (named_nodes vars (c.as_slice-in-UidIn.ensures i)))) (nodes_along graph edge n)) nodes)
     ∙ ((λ i. filter (λ n. list_any (λ m. ascending_has nat_cmp nat_order (named_nodes vars names) m i) (nodes_along graph edge n)) nodes)
     ∙ λ i. filter (λ n. holds_at graph vars n (back i)) nodes) in
-    subst (λ (ys : List ℕ). IfOk c.held_leading.result (λ uids. uids ≡ ys)) e c.held_leading.ensures
+    subst (λ (ys : List ℕ). IfOk c.held_leading_to.result (λ uids. uids ≡ ys)) e c.held_leading_to.ensures
