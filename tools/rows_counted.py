@@ -147,6 +147,37 @@ def level_rows() -> Iterator[tuple[str, str]]:
     yield counted(query, f'{shown},"r":[{",".join(uids(3, 4))}]', by_token=2 + 2, objects=2 + 2)
 
 
+def held(filters: str, *nodes: int) -> tuple[str, str]:
+    """A row of the nodes with a name at which filters hold, each asked by itself."""
+    return f"held\t{{ q(func: has(name)) {filters} {{ uid }} }}", " ".join(map(str, nodes))
+
+
+def held_rows() -> Iterator[tuple[str, str]]:
+    """Filters, node by node."""
+    yield "# At which nodes a filter holds, each node asked by itself. Wanted: by hand, from what each node has.", ""
+    yield held("", 1, 2, 3, 4, 5, 6)
+    yield held("@filter(eq(age, 5))", 2, 3)
+    yield held("@filter(not eq(age, 5))", 1, 4, 5, 6)
+    yield held("@filter(not not eq(age, 5))", 2, 3)
+    yield held("@filter(eq(age, 5) and eq(ok, true))", 3)
+    yield held("@filter(eq(age, 5) or eq(ok, true))", 1, 2, 3)
+    yield held("@filter(not (eq(age, 5) or eq(ok, true)))", 4, 5, 6)
+    yield held("@filter(uid(0x6, 0x1, 0x9))", 1, 6)
+    yield held("@filter(has(friend))", 1, 2, 3, 4, 5)
+    yield held("@filter(has(~friend))", 1, 3, 4, 5, 6)
+    yield held("@filter(gt(count(friend), 1))", 1, 2, 3, 4)
+    yield held("@filter(eq(count(~friend), 0))", 2)
+    yield held("@filter(uid_in(friend, 0x5))", 3, 4)
+    yield held("@filter(uid_in(~friend, 0x5))", 1)
+    yield held("@filter(between(age, 4, 8))", 2, 3, 4)
+    yield held('@filter(allofterms(motto, "red dog"))', 3, 4)
+    yield held('@filter(anyofterms(motto, "blue big"))', 2, 4)
+    yield held("@filter(regexp(motto, /dog$/))", 3, 4)
+    yield held('@filter(ge(born, "2001-05-06"))', 2, 3)
+    yield held('@filter(le(name, "Bob"))', 1, 2)
+    yield held('@filter(eq(name, "Zoe"))')
+
+
 def ring_rows() -> Iterator[tuple[str, str]]:
     """A graph in which each of 30 nodes leads to each."""
     yield "# Each of 30 nodes leads to each: 1, 30 and 30 lists, and not 1, 30 and 900. Of pages what is on them alone is followed.", ""
@@ -167,6 +198,7 @@ def rows() -> Iterator[tuple[str, str]]:
     yield from term_rows()
     yield from other_rows()
     yield from level_rows()
+    yield from held_rows()
     yield "# With 100 more nodes that have a name the same calls are made.", ""
     yield "set\t" + "\t".join(f"{node} name text:N{node}" for node in range(7, 107)), "133 triples"
     yield root('eq(name, ["Ann", "Bob"])', 1, 2, by_token=2)

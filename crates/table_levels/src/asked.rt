@@ -31,8 +31,8 @@ fn query_of(alloc: Global, text: &str) -> Mem<Option<Query>> {
     }
 }
 
-// The plan of a query that passes the checks.
-fn plan_of(alloc: Global, ground: &Ground, text: &str) -> Mem<Option<Plan>> {
+/// The plan of a query that passes the checks.
+pub(crate) fn plan_of(alloc: Global, ground: &Ground, text: &str) -> Mem<Option<Plan>> {
     let Some(query) = query_of(alloc, text)? else {
         return Ok(None);
     };
@@ -40,14 +40,15 @@ fn plan_of(alloc: Global, ground: &Ground, text: &str) -> Mem<Option<Plan>> {
     Ok(check(alloc, query, &ground.at.schema, &mut maker).ok())
 }
 
-fn no_variables(alloc: Global) -> Vars {
+/// What variables stand for where there is none.
+pub(crate) fn no_variables(alloc: Global) -> Vars {
     Vars {
         variables: List::new(alloc),
     }
 }
 
-// The nodes of a root.
-fn nodes_in<L: Ledger>(
+/// The nodes of a root.
+pub(crate) fn nodes_in<L: Ledger>(
     alloc: Global,
     at: &Plain,
     kept: &Parts,

@@ -1,11 +1,13 @@
 //! Reads rows from standard input and prints each with its answer: what the fields of a query show at the nodes of its root, or
-//! what the whole query answers, also with the calls that were made for it, over a graph in memory. A row is the name of a table and
-//! its fields, with a tab between any two. The rows `schema` and `set` make the graph of the rows behind them.
+//! what the whole query answers, also with the calls that were made for it, or at which nodes of its root the filters of its block
+//! hold, over a graph in memory. A row is the name of a table and its fields, with a tab between any two. The rows `schema` and `set`
+//! make the graph of the rows behind them.
 #![tactic(auto)]
 
 mod asked;
 mod counted;
 mod ground;
+mod held;
 mod words;
 
 use crate::ground::Ground;
@@ -53,6 +55,7 @@ fn answer(alloc: Global, ground: &mut Ground, table: &str, fields: &str) -> Mem<
         "size" => asked::size(alloc, ground, fields),
         "answer" => asked::answer(alloc, ground, fields),
         "counted" => asked::with_calls(alloc, ground, fields),
+        "held" => held::nodes(alloc, ground, fields),
         _ => Ok(None),
     }
 }
