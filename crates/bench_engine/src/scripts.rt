@@ -4,9 +4,10 @@ use anyhow::Result;
 use std::alloc::Global;
 
 // The scripts, in the order in which they are run.
-pub(crate) const FORMS: [Form; 9] = [
+pub(crate) const FORMS: [Form; 10] = [
     Form::Tiny,
     Form::Large,
+    Form::Grown,
     Form::Hot,
     Form::Conflicts,
     Form::Begins,
@@ -27,13 +28,15 @@ const BODY: u64 = 1_000;
 pub(crate) enum Form {
     // Transactions that each name a node of its own.
     Tiny,
-    // Statements of one transaction.
+    // Statements of one transaction, a thousand in a body.
     Large,
+    // Statements of one transaction, each in a body of its own.
+    Grown,
     // Transactions that each overwrite the name of one node, while another stays open and reads it at the end.
     Hot,
     // Transactions of 16 sessions that begin together, each of which names the same node.
     Conflicts,
-    // Transactions that do nothing.
+    // Transactions that do nothing, over as many nodes with a name.
     Begins,
     // Queries for the name of one node after another, in one transaction.
     Reads,
@@ -47,9 +50,10 @@ impl Form {
         match self {
             Form::Tiny => "tiny transactions",
             Form::Large => "statements of one transaction",
+            Form::Grown => "statements of one transaction, one a body",
             Form::Hot => "overwrites of one name under a reader",
             Form::Conflicts => "transactions in conflict",
-            Form::Begins => "begins with their discards",
+            Form::Begins => "begins with their discards, over as many nodes",
             Form::Reads => "reads",
             Form::Indexed { changes: 1 } => "indexed triples, one a transaction",
             Form::Indexed { changes: 100 } => "indexed triples, 100 a transaction",
@@ -66,7 +70,7 @@ impl Form {
         }
         match self {
             Form::Hot => text.push_str("begin 2\n")?,
-            Form::Reads => push_large(alloc, &mut text, count)?,
+            Form::Begins | Form::Reads => push_large(alloc, &mut text, count)?,
             _ => {}
         }
         Ok(text)
@@ -78,6 +82,7 @@ impl Form {
         match self {
             Form::Tiny => push_tiny(alloc, &mut text, count)?,
             Form::Large => push_large(alloc, &mut text, count)?,
+            Form::Grown => push_grown(alloc, &mut text, count)?,
             Form::Hot => push_hot(alloc, &mut text, count)?,
             Form::Conflicts => push_conflicts(alloc, &mut text, count)?,
             Form::Begins => push_begins(&mut text, count)?,
@@ -131,6 +136,17 @@ fn push_large(alloc: Global, text: &mut String, count: u64) -> Result<()> {
     for part in 0..count / BODY + 1 {
         let first = part.saturating_mul(BODY);
         let body = statements(alloc, first, count.min(first.saturating_add(BODY)))?;
+        push_frame(alloc, text, "mutate 1", body.as_str())?;
+    }
+    text.push_str("commit 1\n")?;
+    Ok(())
+}
+
+// One transaction, by a body for each statement.
+fn push_grown(alloc: Global, text: &mut String, count: u64) -> Result<()> {
+    text.push_str("begin 1\n")?;
+    for number in 0..count {
+        let body = statement(alloc, number.saturating_add(1), number)?;
         push_frame(alloc, text, "mutate 1", body.as_str())?;
     }
     text.push_str("commit 1\n")?;
