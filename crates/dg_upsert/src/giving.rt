@@ -1,12 +1,14 @@
 // The statements for which those of an upsert block stand.
-ghost use Rattle.std.specs.Prelude.{◌≡◌, [], ◌∷◌, ◌++◌, IfOk, OnOk, map, flat_map, option_copied, option_to_list};
+ghost use Rattle.std.specs.Prelude.{◌≡◌, [], ◌∷◌, ◌++◌, IfOk, OnOk, IsTrue, map, flat_map, option_copied, option_to_list};
+ghost use Rattle.dg_nquad.specs.declared.mutation.Node.TheVariants as nodes;
 ghost use Rattle.dg_nquad.specs.declared.mutation.Object.TheVariants as objects;
-ghost use Rattle.dg_upsert.specs.Meaning.{ends_meant, value_at_subject, literal_of, with_objects, of_subject, statements_meant, mutation_means, mutations_mean};
+ghost use Rattle.dg_upsert.specs.Conditions.{nodes_named};
+ghost use Rattle.dg_upsert.specs.Meaning.{nodes_for, ends_meant, value_at_subject, literal_of, with_objects, of_subject, statements_meant, mutation_means, mutations_mean};
 
 use crate::conditions::is_taken;
 use crate::copying::{copy_node, copy_object};
-use crate::known::{Known, value_named};
-use crate::nodes::{ends_meant, nodes_meant};
+use crate::known::{Known, common_nodes, value_named};
+use crate::nodes::{ends_meant, nodes_meant, stands_for_none};
 use dg_nquad::{Node, Object, Statement};
 use dg_parse::UMut;
 use dg_values::{Mem, OutOfMemory, Str, Value, write_value};
@@ -142,8 +144,8 @@ fn make_room(out: &mut Vec<Statement>, subjects: usize, objects: usize) -> Mem<(
     Ok(out.reserve(subjects.saturating_mul(objects))?)
 }
 
-// Adds the statements for which one stands.
-fn add_meant(
+// Adds every combination of a subject and an object for which those of a statement stand.
+fn add_combinations(
     alloc: Global,
     known: &Known<'_>,
     statement: &Statement,
@@ -156,6 +158,76 @@ fn add_meant(
     let objects = objects_at_most(&statement.o, ends.len());
     make_room(out, subjects.len(), objects)?;
     add_of_subjects(alloc, known, statement, &ends, &subjects, out)
+}
+
+// Adds one at each of these nodes at which a variable has a value.
+fn add_values(
+    alloc: Global,
+    known: &Known<'_>,
+    statement: &Statement,
+    subjects: &[u64],
+    variable: &str,
+    out: &mut Vec<Statement>,
+) -> Mem<()>
+    ensures { OnOk result (out.new.items ≡ out.old.items ++ flat_map (λ uid. of_subject known.now.names known.now.vars.now.variables statement.now.delete statement.now.p (objects.Val variable.now) (nodes.Uid uid)) subjects.now) }
+{
+    for uid in subjects {
+        add_value(alloc, known, statement, &Node::Uid(*uid), variable, out)?;
+    }
+    Ok(())
+}
+
+// Adds one at each node of a variable at which another has a value. It goes over the nodes of both alone.
+fn add_values_in(
+    alloc: Global,
+    known: &Known<'_>,
+    statement: &Statement,
+    subjects: &Str,
+    values: &Str,
+    out: &mut Vec<Statement>,
+) -> Mem<()>
+    ensures { OnOk result (out.new.items ≡ out.old.items ++ flat_map (of_subject known.now.names known.now.vars.now.variables statement.now.delete statement.now.p (objects.Val values.now)) (nodes_for statement.now.delete subjects.now (nodes_named known.now.names known.now.vars.now.variables subjects.now))) }
+{
+    let common = common_nodes(alloc, known, subjects.as_str(), values.as_str())?;
+    make_room(out, common.len(), 1)?;
+    add_values(
+        alloc,
+        known,
+        statement,
+        common.as_slice(),
+        values.as_str(),
+        out,
+    )
+}
+
+// Whether a statement stands for none, as its subject or its object stands for no node.
+fn gives_none(known: &Known<'_>, statement: &Statement) -> bool
+    ensures { IsTrue result → statements_meant known.now.names known.now.vars.now.variables statement.now ≡ [] }
+{
+    match &statement.o {
+        Object::Node(end) if stands_for_none(known, statement.delete, end) => true,
+        _ => stands_for_none(known, statement.delete, &statement.s),
+    }
+}
+
+// Adds the statements for which one stands. Where it stands for none, no node of either side is gone over.
+fn add_meant(
+    alloc: Global,
+    known: &Known<'_>,
+    statement: &Statement,
+    out: &mut Vec<Statement>,
+) -> Mem<()>
+    ensures { OnOk result (out.new.items ≡ out.old.items ++ statements_meant known.now.names known.now.vars.now.variables statement.now) }
+{
+    if gives_none(known, statement) {
+        return Ok(());
+    }
+    match (&statement.s, &statement.o) {
+        (Node::Var(subjects), Object::Val(values)) => {
+            add_values_in(alloc, known, statement, subjects, values, out)
+        }
+        _ => add_combinations(alloc, known, statement, out),
+    }
 }
 
 // Adds the statements for which these stand.

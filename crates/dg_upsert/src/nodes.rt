@@ -1,5 +1,5 @@
 // The nodes for which those of a statement stand.
-ghost use Rattle.std.specs.Prelude.{◌≡◌, [], ◌∷◌, IfOk, map};
+ghost use Rattle.std.specs.Prelude.{◌≡◌, ◌↔◌, [], ◌∷◌, IfOk, IsTrue, map};
 ghost use Rattle.dg_nquad.specs.declared.mutation.Node.TheVariants as nodes;
 ghost use Rattle.dg_upsert.specs.Meaning.{new_name, nodes_for, nodes_meant, ends_meant};
 
@@ -54,6 +54,16 @@ fn nodes_for(alloc: Global, delete: bool, variable: &Str, uids: &[u64]) -> Mem<V
     match uids {
         [] => new_node(alloc, delete, variable),
         _ => numbered(alloc, uids),
+    }
+}
+
+/// Whether a node of a statement stands for none, as a variable without nodes does in a delete. No node is made for it.
+pub fn stands_for_none(known: &Known<'_>, delete: bool, node: &Node) -> bool
+    ensures { IsTrue result ↔ nodes_meant known.now.names known.now.vars.now.variables delete node.now ≡ [] }
+{
+    match node {
+        Node::Uid(_) | Node::Blank(_) => false,
+        Node::Var(x) => delete && nodes_named(known, x.as_str()).is_empty(),
     }
 }
 
