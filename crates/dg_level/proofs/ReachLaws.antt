@@ -1,6 +1,7 @@
 -- Nothing but what a recursion reaches is shown: nodes that no path of its length comes to can be left out of the lists.
-use Rattle.std.proofs.Common.{◌≡◌, ℕ, zero, suc, ◌+◌, ◌-◌, ◌≤◌, Bool, true, false, ◌⊎◌, inl, inr, List, [], ◌∷◌, ◌++◌, map, flat_map, refl, sym, ap, ◌∙◌, arith, true≢false}
-use Rattle.std.specs.Prelude.{◌&&◌, ◌||◌, not, filter}
+use Rattle.std.proofs.Common.{◌≡◌, ℕ, zero, suc, ◌+◌, ◌-◌, ◌<◌, ◌≤◌, Bool, true, false, ◌⊎◌, inl, inr, List, [], ◌∷◌, ◌++◌, map, flat_map, refl, sym, ap, ◌∙◌, arith, true≢false}
+use Rattle.std.proofs.lemmas.List.Folds.{list_any-append}
+use Rattle.std.specs.Prelude.{◌&&◌, ◌||◌, not, if◌then◌else◌, filter}
 use Rattle.std.specs.Ordering.{nat_cmp, is_eq}
 use Rattle.dg_values.specs.Ascending.{ascending, has}
 use Rattle.dg_sets.proofs.MadeOrders.{nat_order}
@@ -12,8 +13,9 @@ use Rattle.dg_level.specs.Shown.{under, node_of}
 use Rattle.dg_graph.specs.declared.change.Triple.{Triple}
 use Rattle.dg_check.specs.declared.vars.Variable.{Variable}
 use Rattle.dg_level.specs.declared.looped.Fetched.{Fetched}
+use Rattle.dg_level.specs.declared.reaching.Step.{Step}
 use Rattle.dg_level.specs.Looping.{PieceOf, pieces_by, nodes_in, nodes_fetched, AreFetched}
-use Rattle.dg_level.specs.Reaching.{nodes_of_pieces, one_step, within_steps, piece_within, pieces_within}
+use Rattle.dg_level.specs.Reaching.{nodes_of_pieces, one_step, within_steps, piece_within, led_to, pieces_within, Reaches, is_near, AreSteps}
 use Rattle.dg_level.proofs.ListLaws.{ascending_has}
 use Rattle.dg_level.proofs.LoopRows.{nodes_are}
 use Rattle.dg_level.specs.Unfolding.{Piece, own, edge, is_on, off_path, edge_trees, piece_shown, unfolded}
@@ -71,14 +73,17 @@ no_more set (edge key single nodes ∷ ps) = ap (λ fs. map (under key) (edge_tr
 
 -- ---- sets that grow step by step
 
-module _ (pieces : ℕ → List Piece) (again : Bool) (set : List ℕ) (top : ℕ) (reach : ℕ → List ℕ)
+module _ (pieces : ℕ → List Piece) (again : Bool) (set : List ℕ) (near : ℕ → Bool) (top : ℕ) (reach : ℕ → List ℕ)
     (leads : (k node u : ℕ) → has nat_cmp (reach k) node ≡ true → has nat_cmp (nodes_of_pieces (pieces node)) u ≡ true → has nat_cmp (reach (suc k)) u ≡ true)
-    (within : (k u : ℕ) → k ≤ top → has nat_cmp (reach k) u ≡ true → has nat_cmp set u ≡ true) where
-  pub reached_alone : (left k : ℕ) (path : List ℕ) (node : ℕ) → has nat_cmp (reach k) node ≡ true → k + left ≤ top → unfolded (pieces_within set pieces) again left path node ≡ unfolded pieces again left path node
+    (within : (k u : ℕ) → k ≤ top → has nat_cmp (reach k) u ≡ true → has nat_cmp set u ≡ true)
+    (nearer : (k u : ℕ) → k < top → has nat_cmp (reach k) u ≡ true → near u ≡ true) where
+  pub reached_alone : (left k : ℕ) (path : List ℕ) (node : ℕ) → has nat_cmp (reach k) node ≡ true → k + left ≤ top → unfolded (pieces_within (led_to near set) pieces) again left path node ≡ unfolded pieces again left path node
   unfolding unfolded
-  reached_alone zero k path node here most = no_more set (pieces node)
+  reached_alone zero k path node here most = no_more (led_to near set node) (pieces node)
   reached_alone (suc left) k path node here most =
-      pieces_same set again path (λ n. node_of (unfolded (pieces_within set pieces) again left (n ∷ path) n)) (λ n. node_of (unfolded pieces again left (n ∷ path) n)) (pieces node)
+      let on : near node ≡ true = nearer k node (omega (arith, most)) here in
+      ap (λ (b : Bool). flat_map (piece_shown (λ nodes. flat_map (λ n. node_of (unfolded (pieces_within (led_to near set) pieces) again left (n ∷ path) n)) (off_path again path nodes))) (map (piece_within (if b then set else [])) (pieces node))) on
+      ∙ pieces_same set again path (λ n. node_of (unfolded (pieces_within (led_to near set) pieces) again left (n ∷ path) n)) (λ n. node_of (unfolded pieces again left (n ∷ path) n)) (pieces node)
       (λ u h.
       let next = leads k node u here h in
       (within (suc k) u (omega (arith, most)) next, ap node_of (reached_alone left (suc k) (u ∷ path) u next (omega (arith, most)))))
@@ -162,6 +167,50 @@ module _ (pieces : ℕ → List Piece) (roots : List ℕ) where
           (λ old. or_left (has nat_cmp whole u) (has nat_cmp (one_step pieces more) u) (ap (λ l. has nat_cmp l u) whole_is ∙ met u (so_far.behind n u old h)))
           (λ new. or_true (has nat_cmp whole u) (has nat_cmp (one_step pieces more) u) (step_from pieces roots more n u new h));
     }
+
+-- ---- what is near
+
+-- of what is found so far these are near: all nodes fewer steps away, and all but the new ones
+pub record Nearer (pieces : ℕ → List Piece) (roots : List ℕ) (steps : ℕ) (found fresh : List ℕ) (near : ℕ → Bool) : Type 0 where
+  pub fewer : (k u : ℕ) → k < steps → has nat_cmp (within_steps pieces k roots) u ≡ true → near u ≡ true
+  pub rest : (u : ℕ) → has nat_cmp found u ≡ true → (near u || has nat_cmp fresh u) ≡ true
+
+module _ (pieces : ℕ → List Piece) (roots : List ℕ) where
+  pub nearer_first : (found fresh : List ℕ) (near : ℕ → Bool) → found ≡ roots → fresh ≡ roots → Nearer pieces roots 0 found fresh near
+  nearer_first found fresh near is new = record {
+    fewer = λ k u less h. absurd (omega (arith, less));
+    rest = λ u h. or_true (near u) (has nat_cmp fresh u) (ap (λ l. has nat_cmp l u) (new ∙ sym is) ∙ h);
+  }
+
+  -- the new ones are near in the next round
+  pub nearer_on : (steps : ℕ) (found fresh more all : List ℕ) (near after : ℕ → Bool) → Spread pieces roots steps found fresh → Nearer pieces roots steps found fresh near → ((u : ℕ) → after u ≡ (near u || has nat_cmp fresh u)) → all ≡ either found more
+      → Nearer pieces roots (suc steps) all more after
+  nearer_on steps found fresh more all near after so_far before is whole_is = record {
+    fewer = λ k u less h. is u ∙ before.rest u (so_far.all u (steps_within pieces roots steps k u (omega (arith, less)) h));
+    rest = λ u h.
+        in_one_of (has nat_cmp found u) (has nat_cmp more u) (sym (has_more nat_cmp nat_order found more u) ∙ (sym (ap (λ l. has nat_cmp l u) whole_is) ∙ h))
+        (λ old. or_left (after u) (has nat_cmp more u) (is u ∙ before.rest u old))
+        (λ new. or_true (after u) (has nat_cmp more u) new);
+  }
+
+  -- after as many rounds all is found that a recursion reaches
+  pub all_reached : (steps rounds : ℕ) (found fresh : List ℕ) (near : ℕ → Bool) → steps ≤ rounds → Spread pieces roots rounds found fresh → Nearer pieces roots rounds found fresh near → Reaches pieces steps roots near found
+  all_reached steps rounds found fresh near most so_far before = record {
+    all = λ u h. so_far.all u (steps_within pieces roots rounds steps u most h);
+    nearer = λ k u less h. before.fewer k u (omega (arith, less, most)) h;
+  }
+
+-- one step more
+or_none : (b : Bool) → (b || false) ≡ b
+or_none true = refl
+or_none false = refl
+
+pub near_more : (steps : List Step) (step : Step) (u : ℕ) → is_near (steps ++ step ∷ []) u ≡ (is_near steps u || has nat_cmp step.nodes u)
+near_more steps step u = list_any-append (λ (s : Step). has nat_cmp s.nodes u) steps (step ∷ []) ∙ ap (λ b. is_near steps u || b) (or_none (has nat_cmp step.nodes u))
+
+pub steps_more : (graph : List Triple) (vars : List Variable) (pieces : List PieceOf) (steps : List Step) (step : Step) → AreSteps graph vars pieces steps → AreFetched graph vars step.nodes step.all.items pieces → AreSteps graph vars pieces (steps ++ step ∷ [])
+steps_more graph vars pieces [] step are is = (is, tt)
+steps_more graph vars pieces (s ∷ steps) step are is = (are.0, steps_more graph vars pieces steps step are.1 is)
 
 -- ---- field by field, or node by node
 

@@ -4,10 +4,10 @@ use Rattle.std.proofs.lemmas.List.{map-append}
 use Rattle.std.proofs.lemmas.List.Folds.{flat_map-map}
 use Rattle.std.specs.Prelude.{pos, ◌||◌, Some, slice_get, option_map}
 use Rattle.std.specs.Fmt.{signed_decimal}
-use Rattle.std.specs.Ordering.{nat_cmp}
+use Rattle.std.specs.Ordering.{nat_cmp, is_eq}
 use Rattle.dg_values.specs.Ascending.{ascending, has}
 use Rattle.dg_sets.proofs.MadeOrders.{nat_order}
-use Rattle.dg_sets.proofs.Sets.{from_each, has_joined}
+use Rattle.dg_sets.proofs.Sets.{is_one, from_each, has_joined}
 use Rattle.dg_funcs.proofs.PassLaws.{or_true}
 use Rattle.dg_tree.specs.declared.tree.Tree.{Tree, Tree-F, fold-roll-Tree}
 use Rattle.dg_tree.specs.declared.tree.Tree.TheVariants as trees
@@ -18,7 +18,7 @@ use Rattle.dg_level.specs.Rows.{total, row_text, braced, objects_of, shown_array
 use Rattle.dg_level.specs.Shown.{under, node_of, number_under, list_shown, as_array, first_tree, as_single, edge_shown, remaining}
 use Rattle.dg_level.specs.Planned.{cut_to}
 use Rattle.dg_level.specs.Columns.{FieldsOf, TreesOf, number_object, is_alone, sort_below, IsBelow, bytes_of}
-use Rattle.dg_level.proofs.RowLaws.{text_of, total_first, node_text, array_of_trees, object_first, shown_within, rows_within, level_within}
+use Rattle.dg_level.proofs.RowLaws.{text_of, total_first, row_empty, node_text, array_of_trees, object_first, shown_within, rows_within, level_within}
 use Rattle.dg_level.proofs.ListLaws.{map_twice, map_same, ascending_has}
 use Rattle.dg_level.proofs.ShortLaws.{filter_short}
 
@@ -120,6 +120,42 @@ pub list_is : (list : ℕ → List ℕ) (nodes : List ℕ) (place node : ℕ) �
 list_is list [] place node e = absurd (cc)
 list_is list (n ∷ nodes) zero node e = ap (λ o. option_map list o) e
 list_is list (n ∷ nodes) (suc place) node e = list_is list nodes place node e
+
+-- ---- where no node of the level below shows anything
+
+no_text : (text : List ℕ) → length text ≤ 0 → text ≡ []
+no_text [] short = refl
+no_text (byte ∷ text) short = absurd (omega (arith, short))
+
+bare_node : (at : FieldsOf) (level : List ℕ) (n : ℕ) → has nat_cmp level n ≡ true → total (map (λ m. row_text (at m)) level) ≡ 0 → node_of (at n) ≡ []
+bare_node at [] n there none = absurd (true≢false (sym there))
+bare_node at (m ∷ level) n there none =
+    let first = row_text (at m) in
+    let rest = map (λ k. row_text (at k)) level in
+    by (is_eq (nat_cmp m n)) refl there (omega (arith, none, total_first first rest)) (λ h. bare_node at level n h (omega (arith, none, total_first first rest)))
+  where
+    by : (b : Bool) → is_eq (nat_cmp m n) ≡ b → (b || has nat_cmp level n) ≡ true → length (row_text (at m)) ≤ 0 → (has nat_cmp level n ≡ true → node_of (at n) ≡ []) → node_of (at n) ≡ []
+    by true e h short later = ap (λ k. node_of (at k)) (sym (is_one nat_cmp nat_order m n e)) ∙ ap node_of (row_empty (at m) (no_text (row_text (at m)) short))
+    by false e h short later = later h
+
+bare_nodes : (at : FieldsOf) (level list : List ℕ) → AreOfLevel level list → total (map (λ m. row_text (at m)) level) ≡ 0 → flat_map (λ n. node_of (at n)) list ≡ []
+bare_nodes at level [] among none = refl
+bare_nodes at level (n ∷ list) among none = λ j. bare_node at level n among.0 none j ++ bare_nodes at level list among.1 none j
+
+no_names_by : (names : List (List ℕ)) → map key_text names ≡ [] → names ≡ []
+no_names_by [] e = refl
+no_names_by (name ∷ names) e = absurd (omega (arith, ap length e))
+
+bare_edge : (single : Bool) (at : FieldsOf) (list : List ℕ) → flat_map (λ n. node_of (at n)) list ≡ [] → edge_shown (sort_below single) [] [] at list ≡ []
+bare_edge true at list none = ap first_tree none
+bare_edge false at list none = ap as_array none
+
+-- an edge shows nothing there, unless the number of nodes is asked for
+pub none_below : (nodes : List ℕ) (below : Below) (shown : TreesOf) (place node : ℕ) → IsBelow nodes below shown → below.counts ≡ [] → total below.rows.rows ≡ 0 → slice_get nodes place ≡ Some node → shown node ≡ []
+none_below nodes below shown place node b counts none at =
+    let names : b.names ≡ [] = no_names_by b.names (sym b.counts_are ∙ counts) in
+    let bare = bare_nodes b.at below.level (b.list node) (of_node b.list nodes below.level place node b.level_is at) (sym (ap total b.rows_are) ∙ none) in
+    b.trees_are node ∙ (λ j. edge_shown (sort_below below.single) [] (names j) b.at (b.list node)) ∙ bare_edge below.single b.at (b.list node) bare
 
 -- ---- the level below has no more bytes than what is shown of it
 

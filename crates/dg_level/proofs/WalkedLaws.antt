@@ -1,5 +1,5 @@
 -- What is unfolded by places is what is unfolded by nodes.
-use Rattle.std.proofs.Common.{◌≡◌, ℕ, zero, suc, ◌<◌, ◌⊎◌, inl, inr, true, false, List, [], ◌∷◌, map, length, get_or, refl, sym, ap, ◌∙◌, arith}
+use Rattle.std.proofs.Common.{◌≡◌, ℕ, zero, suc, ◌<◌, ◌⊎◌, inl, inr, true, false, Bool, List, [], ◌∷◌, map, length, get_or, refl, sym, ap, ◌∙◌, arith}
 use Rattle.std.specs.Prelude.{Some, slice_get}
 use Rattle.std.specs.List.{AllByRecursion}
 use Rattle.std.specs.declared.cmp.Ordering.TheVariants.{Less, Equal}
@@ -15,25 +15,25 @@ use Rattle.dg_recurse.specs.Laws.{renamed, LeadsBelow}
 use Rattle.dg_recurse.proofs.NameLaws.{names_dont_matter}
 use Rattle.dg_level.specs.Looping.{PieceOf, pieces_by}
 use Rattle.dg_level.specs.Placing.{name_of, ArePlaced}
-use Rattle.dg_level.specs.Reaching.{within_steps, pieces_within, Reaches}
+use Rattle.dg_level.specs.Reaching.{within_steps, led_to, pieces_within, Reaches}
 use Rattle.dg_level.specs.Unfolding.{unfolded}
 use Rattle.dg_level.proofs.ReachLaws.{first_in, reached_alone, steps_lead, steps_within}
 
 -- ---- the pieces that columns hold
 
-pub record Held (set : List ℕ) (columns : List Column) (pieces : List PieceOf) : Type 0 where
+pub record Held (near : ℕ → Bool) (set : List ℕ) (columns : List Column) (pieces : List PieceOf) : Type 0 where
   pub placed : List PieceOf
   pub holds : AreColumnsOf columns placed
-  pub names : (place : ℕ) → place < length set → pieces_within set (pieces_by pieces) (name_of set place) ≡ map (renamed (name_of set)) (pieces_at placed place)
+  pub names : (place : ℕ) → place < length set → pieces_within (led_to near set) (pieces_by pieces) (name_of set place) ≡ map (renamed (name_of set)) (pieces_at placed place)
   pub below : (place : ℕ) → place < length set → AllByRecursion (LeadsBelow (length set)) (pieces_at placed place)
 
-pub held : (set : List ℕ) (columns : List Column) (pieces : List PieceOf) → ArePlaced set columns pieces → Held set columns pieces
-held set [] [] are = record { placed = []; holds = tt; names = λ place lt. refl; below = λ place lt. tt }
-held set [] (piece ∷ pieces) are = absurd are
-held set (column ∷ columns) [] are = absurd are
-held set (column ∷ columns) (piece ∷ pieces) are =
+pub held : (near : ℕ → Bool) (set : List ℕ) (columns : List Column) (pieces : List PieceOf) → ArePlaced near set columns pieces → Held near set columns pieces
+held near set [] [] are = record { placed = []; holds = tt; names = λ place lt. refl; below = λ place lt. tt }
+held near set [] (piece ∷ pieces) are = absurd are
+held near set (column ∷ columns) [] are = absurd are
+held near set (column ∷ columns) (piece ∷ pieces) are =
     let first = are.0 in
-    let rest = held set columns pieces are.1 in
+    let rest = held near set columns pieces are.1 in
     record {
       placed = first.placed ∷ rest.placed;
       holds = (first.holds, rest.holds);
@@ -89,18 +89,18 @@ node_there (x ∷ xs) (suc place) node is = node_there xs place node is
 
 -- ---- by places or by nodes
 
-module _ (set : List ℕ) (ascend : Ascends nat_cmp set) (columns : List Column) (pieces : List PieceOf) (h : Held set columns pieces) (steps : ℕ) (roots : List ℕ) (reaches : Reaches (pieces_by pieces) steps roots set) where
+module _ (near : ℕ → Bool) (set : List ℕ) (ascend : Ascends nat_cmp set) (columns : List Column) (pieces : List PieceOf) (h : Held near set columns pieces) (steps : ℕ) (roots : List ℕ) (reaches : Reaches (pieces_by pieces) steps roots near set) where
   pub walked_same : (node place : ℕ) → has nat_cmp roots node ≡ true → StandsAt nat_cmp set node place → unfolded (pieces_at h.placed) false steps (place ∷ []) place ≡ unfolded (pieces_by pieces) false steps (node ∷ []) node
   walked_same node place root stands =
       let lt : place < length set = stands.within in
       let is = node_there set place node stands.item_is in
-      sym (names_dont_matter (name_of set) (length set) (pieces_within set (pieces_by pieces)) (pieces_at h.placed) false steps (place ∷ []) place (one_place set ascend) h.names h.below (lt, tt) lt)
-      ∙ (λ j. unfolded (pieces_within set (pieces_by pieces)) false steps (is j ∷ []) (is j))
-      ∙ reached_alone (pieces_by pieces) false set steps (λ k. within_steps (pieces_by pieces) k roots) (steps_lead (pieces_by pieces) roots) (λ k u most there. reaches u (steps_within (pieces_by pieces) roots steps k u most there)) steps 0 (node ∷ []) node root (omega arith)
+      sym (names_dont_matter (name_of set) (length set) (pieces_within (led_to near set) (pieces_by pieces)) (pieces_at h.placed) false steps (place ∷ []) place (one_place set ascend) h.names h.below (lt, tt) lt)
+      ∙ (λ j. unfolded (pieces_within (led_to near set) (pieces_by pieces)) false steps (is j ∷ []) (is j))
+      ∙ reached_alone (pieces_by pieces) false set near steps (λ k. within_steps (pieces_by pieces) k roots) (steps_lead (pieces_by pieces) roots) (λ k u most there. reaches.all u (steps_within (pieces_by pieces) roots steps k u most there)) reaches.nearer steps 0 (node ∷ []) node root (omega arith)
 
   -- the roots are among those that are reached
   pub roots_there : (node : ℕ) → has nat_cmp roots node ≡ true → has nat_cmp set node ≡ true
-  roots_there node root = reaches node (steps_within (pieces_by pieces) roots steps 0 node (omega arith) root)
+  roots_there node root = reaches.all node (steps_within (pieces_by pieces) roots steps 0 node (omega arith) root)
 
 -- a node of a list is in it
 pub has_at : (nodes : List ℕ) (i : ℕ) → i < length nodes → has nat_cmp nodes (get_or nodes i 0) ≡ true

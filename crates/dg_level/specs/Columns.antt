@@ -1,5 +1,5 @@
 -- What the nodes of a level show under a field, before it is written row by row.
-use Rattle.std.specs.Prelude.{◌≡◌, ℕ, ◌+◌, ◌≤◌, pos, ⊤, Bool, true, false, if◌then◌else◌, List, [], ◌∷◌, ◌++◌, option_to_list, length, map, flat_map}
+use Rattle.std.specs.Prelude.{◌≡◌, ℕ, ◌+◌, ◌≤◌, pos, ⊤, Bool, true, false, if◌then◌else◌, List, [], ◌∷◌, ◌++◌, Some, slice_get, option_to_list, length, map, flat_map}
 use Rattle.std.specs.Fmt.{signed_decimal}
 use Rattle.std.specs.Ordering.{nat_cmp}
 use Rattle.dg_values.specs.Ascending.{ascending}
@@ -55,9 +55,9 @@ pub record IsBelow (nodes : List ℕ) (below : Below) (shown : TreesOf) : Type 0
   pub short : below.single ≡ true → (n : ℕ) → length (list n) ≤ 1
   pub trees_are : (n : ℕ) → shown n ≡ edge_shown (sort_below below.single) [] names at (list n)
 
--- these trees are shown by a column at each node
+-- these trees are shown by a column at each node; of a column of nothing that is said of the nodes of the level alone
 abbrev pub ShowsBy : List Triple → List Variable → List ℕ → Content → TreesOf → Type 0
-ShowsBy graph vars nodes contents.Nothing shown = (n : ℕ) → shown n ≡ []
+ShowsBy graph vars nodes contents.Nothing shown = (place n : ℕ) → slice_get nodes place ≡ Some n → shown n ≡ []
 ShowsBy graph vars nodes contents.Uid shown = (n : ℕ) → shown n ≡ trees.Text (uid_text n) ∷ []
 ShowsBy graph vars nodes (contents.Count e) shown = (n : ℕ) → shown n ≡ trees.Int (pos (count_along graph e n)) ∷ []
 ShowsBy graph vars nodes (contents.Value place) shown = (n : ℕ) → shown n ≡ map value_tree (option_to_list (value_at vars place n))

@@ -138,7 +138,7 @@ pub record IsFetched (graph : List Triple) (vars : List Variable) (nodes : List 
   pub shown : TreesOf
   pub leads : Leading
   pub key_is : fetched.key ≡ key_text name
-  pub by : ShowsBy graph vars nodes fetched.content shown
+  pub by : (some : List ℕ) → ShowsBy graph vars some fetched.content shown
   pub lists_are : option_map lists_as fetched.lists ≡ option_map (lists_over nodes) leads
   pub short : IsShort leads
   pub piece_is : (node : ℕ) → piece node ≡ piece_from name shown leads node

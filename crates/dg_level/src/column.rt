@@ -1,6 +1,7 @@
 // What the nodes of a level show under a field, before it is written row by row.
-ghost use Rattle.std.specs.Prelude.{◌≡◌, ◌≤◌};
+ghost use Rattle.std.specs.Prelude.{◌≡◌, ◌≤◌, [], IsTrue};
 ghost use Rattle.dg_level.specs.Columns.{held_by, room_of};
+ghost use Rattle.dg_level.specs.Rows.{total};
 
 use crate::Rows;
 use dg_parse::QEdge;
@@ -51,6 +52,14 @@ pub struct Column {
     pub key: Str,
     /// What is shown under it.
     pub content: Content,
+}
+
+/// Whether nothing is shown of any list: its nodes show nothing, and no number of nodes is asked for.
+pub fn shows_none(below: &Below) -> bool
+    ensures counts { IsTrue result → below.now.counts ≡ [] }
+    ensures rows { IsTrue result → total below.now.rows.rows ≡ 0 }
+{
+    below.counts.is_empty() && below.rows.total() == 0
 }
 
 /// How many bytes the rows of the level below have.

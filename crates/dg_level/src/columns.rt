@@ -11,7 +11,7 @@ ghost use Rattle.dg_level.specs.Columns.{held_by, room_of, bytes_of, IsBelow, Sh
 ghost use Rattle.dg_level.specs.Levels.{trees_of, all_trees, all_fields, below_trees, own_shown, bare_trees, kept_trees, all_bytes};
 
 use crate::Rows;
-use crate::column::{Below, Column, Content, held_by};
+use crate::column::{Below, Column, Content, held_by, shows_none};
 use crate::directives::cascades;
 use crate::keys::{counts_of, key_text};
 use crate::lists::{lists_of, nodes_below};
@@ -244,7 +244,7 @@ fn content_of<S: Snapshot, L: Ledger>(
     }
 }
 
-// What is shown under an edge, of whose list a cascade drops nodes or doesn't.
+// What is shown under an edge, of whose list a cascade drops nodes or doesn't. Where nothing is shown the lists aren't kept.
 #[cycle(level)]
 fn edge_content<S: Snapshot, L: Ledger>(
     alloc: Global,
@@ -293,6 +293,9 @@ fn edge_content<S: Snapshot, L: Ledger>(
         nodes,
         reads,
     )?;
+    if shows_none(&below) {
+        return Ok(Content::Nothing);
+    }
     Ok(Content::Nodes(below))
 }
 

@@ -1,14 +1,19 @@
 // Columns over the nodes that a recursion reaches, by their places among these.
 ghost use Rattle.std.specs.Prelude.{◌≡◌, ℕ, ◌++◌, ◌∷◌, [], List as Items, Some, map, slice_get, IfOk, OnOk};
+ghost use Rattle.dg_graph.specs.declared.change.Triple.{Triple};
+ghost use Rattle.dg_check.specs.declared.vars.Variable.{Variable as Known};
 ghost use Rattle.dg_tree.specs.Texts.{key_text};
 ghost use Rattle.dg_level.specs.Columns.{TreesOf, ShowsBy};
-ghost use Rattle.dg_level.specs.Looping.{PieceOf, IsFetched, AreFetched};
-ghost use Rattle.dg_level.specs.Placing.{ArePlaces, AllPlaces, IsPlaced, ArePlaced};
+ghost use Rattle.dg_level.specs.Looping.{PieceOf, nodes_in, IsFetched, AreFetched};
+ghost use Rattle.dg_level.specs.Placing.{leads_from, ArePlaces, AllPlaces, IsPlaced, ArePlaced};
+ghost use Rattle.dg_level.specs.Reaching.{is_near, AreSteps};
 ghost use Rattle.dg_level.specs.Rows.{row_text};
 ghost use Rattle.dg_level.specs.Shown.{under};
 
 use crate::Rows;
+use crate::lists::list_at;
 use crate::looped::Fetched;
+use crate::reaching::{Found, Step};
 use crate::writing::push_column;
 use dg_check::Vars;
 use dg_graph::Snapshot;
@@ -111,37 +116,68 @@ fn places_in(alloc: Global, set: &Uids, nodes: &[u64]) -> Mem<List<usize>>
     Ok(places)
 }
 
-// The same of each list.
-fn lists_placed(alloc: Global, set: &Uids, lists: &[List<u64>]) -> Mem<Vec<List<usize>>>
-    ensures { IfOk result (λ made. AllPlaces set.now lists.now made.items) }
+// The nodes to which the field at one place leads from the node at another, as they were fetched.
+fn list_of(all: &[Fetched], field: usize, place: usize) -> &[u64]
+    ensures { (graph : Items Triple) (vars : Items Known) (nodes : Items ℕ) (pieces : Items PieceOf) (piece : PieceOf) (node : ℕ) → AreFetched graph vars nodes all.now pieces → slice_get pieces field ≡ Some piece → slice_get nodes place ≡ Some node
+        → result.now ≡ nodes_in (piece node) }
+{
+    if field >= all.len() {
+        return &[];
+    }
+    match &all[field].lists {
+        None => &[],
+        Some(lists) => list_at(lists.lists.as_slice(), place),
+    }
+}
+
+// The nodes to which the field at a place leads from a node of which was fetched, and none from another.
+fn list_from(steps: &[Step], field: usize, node: u64) -> &[u64]
+    ensures { (graph : Items Triple) (vars : Items Known) (pieces : Items PieceOf) (piece : PieceOf) → AreSteps graph vars pieces steps.now → slice_get pieces field ≡ Some piece
+        → result.now ≡ leads_from (is_near steps.now) piece node }
+{
+    for step in steps {
+        if let Ok(place) = place_of(step.nodes.as_slice(), &node) {
+            return list_of(step.all.as_slice(), field, place);
+        }
+    }
+    &[]
+}
+
+// The places of the nodes to which the field at a place leads from each node of a set.
+fn lists_placed(alloc: Global, set: &Uids, steps: &[Step], field: usize) -> Mem<Vec<List<usize>>>
+    ensures { (graph : Items Triple) (vars : Items Known) (pieces : Items PieceOf) (piece : PieceOf) → AreSteps graph vars pieces steps.now → slice_get pieces field ≡ Some piece
+        → IfOk result (λ made. AllPlaces set.now (map (leads_from (is_near steps.now) piece) set.now) made.items) }
 {
     let mut made = Vec::new(alloc);
-    for list in lists {
-        let places = places_in(alloc, set, list.as_slice())?;
+    for node in set.as_slice() {
+        let places = places_in(alloc, set, list_from(steps, field, *node))?;
         made.push(places)?;
     }
     Ok(made)
 }
 
-// The column of a field over a set of nodes.
+// The column of the field at a place over all nodes that were found.
 fn placed_column<S: Snapshot, L: Ledger>(
     alloc: Global,
     snap: &S,
-    set: &Uids,
+    found: &Found,
+    field: usize,
     fetched: &Fetched,
     vars: &Vars,
     reads: &mut Steps<L>,
 ) -> Mem<Column>
-    ensures { (piece : PieceOf) → IsFetched (S.graph snap.now) vars.now.variables set.now fetched.now piece → IfOk result (λ column. IsPlaced set.now column piece) }
+    ensures { (pieces : Items PieceOf) (piece : PieceOf) → AreSteps (S.graph snap.now) vars.now.variables pieces found.now.steps.items → slice_get pieces field ≡ Some piece → IsFetched (S.graph snap.now) vars.now.variables [] fetched.now piece
+        → IfOk result (λ column. IsPlaced (is_near found.now.steps.items) found.now.set column piece) }
 {
     match &fetched.lists {
         None => {
-            let texts = own_texts(alloc, snap, fetched, vars, set.as_slice(), reads)?;
+            let nodes = found.set.as_slice();
+            let texts = own_texts(alloc, snap, fetched, vars, nodes, reads)?;
             Ok(Column::Own(texts))
         }
         Some(lists) => {
             let key = fetched.key.copy(alloc)?;
-            let places = lists_placed(alloc, set, lists.lists.as_slice())?;
+            let places = lists_placed(alloc, &found.set, found.steps.as_slice(), field)?;
             Ok(Column::Edge {
                 key,
                 single: lists.single,
@@ -158,20 +194,22 @@ fn add(columns: &mut Vec<Column>, column: Column) -> Mem<()>
     Ok(columns.push(column)?)
 }
 
-/// The columns of fields over a set of nodes, of which they were fetched. The error is want of memory.
+/// The columns of fields over all nodes that were found, by what the fields are themselves: fetched of no node. The error is want of
+/// memory.
 pub fn placed_columns<S: Snapshot, L: Ledger>(
     alloc: Global,
     snap: &S,
-    set: &Uids,
+    found: &Found,
     all: &[Fetched],
     vars: &Vars,
     reads: &mut Steps<L>,
 ) -> Mem<Vec<Column>>
-    ensures { (pieces : Items PieceOf) → AreFetched (S.graph snap.now) vars.now.variables set.now all.now pieces → IfOk result (λ columns. ArePlaced set.now columns.items pieces) }
+    ensures { (pieces : Items PieceOf) → AreSteps (S.graph snap.now) vars.now.variables pieces found.now.steps.items → AreFetched (S.graph snap.now) vars.now.variables [] all.now pieces
+        → IfOk result (λ columns. ArePlaced (is_near found.now.steps.items) found.now.set columns.items pieces) }
 {
     let mut columns = Vec::new(alloc);
-    for fetched in all {
-        let column = placed_column(alloc, snap, set, fetched, vars, reads)?;
+    for (field, fetched) in all.iter().enumerate() {
+        let column = placed_column(alloc, snap, found, field, fetched, vars, reads)?;
         add(&mut columns, column)?;
     }
     Ok(columns)

@@ -1,11 +1,13 @@
-// The nodes that a recursion reaches.
-ghost use Rattle.std.specs.Prelude.{◌≡◌, ◌&&◌, ℕ, true, not, IfOk};
+// The nodes that a recursion reaches, and what is fetched of them.
+ghost use Rattle.std.specs.Prelude.{◌≡◌, ◌&&◌, ◌++◌, ◌∷◌, [], ℕ, true, not, List as Items, IfOk, OnOk};
 ghost use Rattle.std.specs.Ordering.{nat_cmp};
 ghost use Rattle.dg_values.specs.Ascending.{has};
-ghost use Rattle.dg_level.specs.Looping.{planned_pieces, pieces_by};
-ghost use Rattle.dg_level.specs.Reaching.{one_step, within_steps};
+ghost use Rattle.dg_graph.specs.declared.change.Triple.{Triple};
+ghost use Rattle.dg_check.specs.declared.vars.Variable.{Variable as Known};
+ghost use Rattle.dg_level.specs.Looping.{PieceOf, planned_pieces, pieces_by, AreFetched};
+ghost use Rattle.dg_level.specs.Reaching.{one_step, is_near, AreSteps, Reaches};
 
-use crate::looped::{fetched_all, level_below};
+use crate::looped::{Fetched, fetched_all, level_below};
 use dg_check::{Field, Vars};
 use dg_graph::Snapshot;
 use dg_parse::QField;
@@ -14,8 +16,26 @@ use dg_values::{Mem, OutOfMemory, Steps};
 use std::alloc::Global;
 use std::sync::ledger::Ledger;
 
-// The nodes one step from these.
-fn one_step<S: Snapshot, L: Ledger>(
+/// Nodes of which was fetched at once: those so many steps from the roots, and no fewer.
+#[derive(Drop)]
+pub struct Step {
+    /// The nodes.
+    pub nodes: Uids,
+    /// What was fetched of them for each field.
+    pub all: Vec<Fetched>,
+}
+
+/// What a recursion reaches.
+#[derive(Drop)]
+pub struct Found {
+    /// All nodes, those at which it ends among them.
+    pub set: Uids,
+    /// What was fetched of those from which it goes on, step by step.
+    pub steps: Vec<Step>,
+}
+
+// What is fetched of some nodes.
+fn step_of<S: Snapshot, L: Ledger>(
     alloc: Global,
     snap: &S,
     fields: &[QField],
@@ -23,57 +43,55 @@ fn one_step<S: Snapshot, L: Ledger>(
     vars: &Vars,
     nodes: &Uids,
     reads: &mut Steps<L>,
-) -> Mem<Uids>
-    ensures { IfOk result (λ uids. (u : ℕ) → has nat_cmp uids u ≡ has nat_cmp (one_step (pieces_by (planned_pieces true (S.declared snap.now) (S.graph snap.now) vars.now.variables fields.now kept.now)) nodes.now) u) }
+) -> Mem<Step>
+    ensures nodes { IfOk result (λ step. step.nodes ≡ nodes.now) }
+    ensures fetched { IfOk result (λ step. AreFetched (S.graph snap.now) vars.now.variables step.nodes step.all.items (planned_pieces true (S.declared snap.now) (S.graph snap.now) vars.now.variables fields.now kept.now)) }
 {
-    let all = fetched_all(
-        alloc,
-        snap,
-        true,
-        fields,
-        kept,
-        vars,
-        nodes.as_slice(),
-        reads,
-    )?;
-    level_below(alloc, all.as_slice())
+    let slice = nodes.as_slice();
+    let all = fetched_all(alloc, snap, true, fields, kept, vars, slice, reads)?;
+    let copy = nodes.copy(alloc)?;
+    Ok(Step { nodes: copy, all })
 }
 
-// The nodes one step from the new ones that weren't found before.
-fn new_ones<S: Snapshot, L: Ledger>(
-    alloc: Global,
-    snap: &S,
-    fields: &[QField],
-    kept: &[Field],
-    vars: &Vars,
-    found: &Uids,
-    fresh: &Uids,
-    reads: &mut Steps<L>,
-) -> Mem<Uids>
-    ensures { IfOk result (λ uids. (u : ℕ) → has nat_cmp uids u ≡ (not (has nat_cmp found.now u) && has nat_cmp (one_step (pieces_by (planned_pieces true (S.declared snap.now) (S.graph snap.now) vars.now.variables fields.now kept.now)) fresh.now) u)) }
+// The nodes to which those of a step lead, without those that were found before.
+fn new_ones(alloc: Global, step: &Step, found: &Uids) -> Mem<Uids>
+    ensures { (graph : Items Triple) (vars : Items Known) (pieces : Items PieceOf) → AreFetched graph vars step.now.nodes step.now.all.items pieces
+        → IfOk result (λ uids. (u : ℕ) → has nat_cmp uids u ≡ (not (has nat_cmp found.now u) && has nat_cmp (one_step (pieces_by pieces) step.now.nodes) u)) }
 {
-    let next = one_step(alloc, snap, fields, kept, vars, fresh, reads)?;
+    let next = level_below(alloc, step.all.as_slice())?;
     next.without(alloc, found)
 }
 
-/// A set that has all nodes at most so many steps from these. What a node leads to is fetched once. The error is want of memory.
+// Adds a step.
+fn add(steps: &mut Vec<Step>, step: Step) -> Mem<()>
+    ensures { OnOk result (steps.new.items ≡ steps.old.items ++ step ∷ []) }
+{
+    Ok(steps.push(step)?)
+}
+
+/// All nodes at most so many edges from the roots, with what is fetched of those that are nearer: of each node once. The error is
+/// want of memory.
 pub fn reached<S: Snapshot, L: Ledger>(
     alloc: Global,
     snap: &S,
-    steps: u32,
+    edges: u32,
     fields: &[QField],
     kept: &[Field],
     vars: &Vars,
     roots: &Uids,
     reads: &mut Steps<L>,
-) -> Mem<Uids>
-    ensures { IfOk result (λ uids. (u : ℕ) → has nat_cmp (within_steps (pieces_by (planned_pieces true (S.declared snap.now) (S.graph snap.now) vars.now.variables fields.now kept.now)) steps roots.now) u ≡ true → has nat_cmp uids u ≡ true) }
+) -> Mem<Found>
+    ensures fetched { IfOk result (λ found. AreSteps (S.graph snap.now) vars.now.variables (planned_pieces true (S.declared snap.now) (S.graph snap.now) vars.now.variables fields.now kept.now) found.steps.items) }
+    ensures reaches { IfOk result (λ found. Reaches (pieces_by (planned_pieces true (S.declared snap.now) (S.graph snap.now) vars.now.variables fields.now kept.now)) edges roots.now (is_near found.steps.items) found.set) }
 {
-    let mut found = roots.copy(alloc)?;
+    let mut steps = Vec::new(alloc);
+    let mut set = roots.copy(alloc)?;
     let mut fresh = roots.copy(alloc)?;
-    for _step in 0..steps {
-        fresh = new_ones(alloc, snap, fields, kept, vars, &found, &fresh, reads)?;
-        found = found.or(alloc, &fresh)?;
+    for _round in 0..edges {
+        let step = step_of(alloc, snap, fields, kept, vars, &fresh, reads)?;
+        fresh = new_ones(alloc, &step, &set)?;
+        set = set.or(alloc, &fresh)?;
+        add(&mut steps, step)?;
     }
-    Ok(found)
+    Ok(Found { set, steps })
 }

@@ -1,5 +1,5 @@
 // The rows of a recursion in which no node comes again below itself.
-ghost use Rattle.std.specs.Prelude.{◌≡◌, ℕ, ◌-◌, ◌≤◌, ◌<◌, ◌++◌, ◌∷◌, [], true, false, List as Items, map, IfOk, OnOk, IsErrOf};
+ghost use Rattle.std.specs.Prelude.{◌≡◌, ℕ, ◌-◌, ◌≤◌, ◌<◌, ◌++◌, ◌∷◌, [], Bool, true, false, List as Items, map, IfOk, OnOk, IsErrOf};
 ghost use Rattle.std.specs.Ordering.{nat_cmp};
 ghost use Rattle.dg_values.specs.Ascending.{has};
 ghost use Rattle.dg_recurse.specs.Near.{AreLeast};
@@ -40,12 +40,12 @@ fn push_unfolded(
     requires some { 1 ≤ depth }
     requires most { depth ≤ 32 }
     requires reach { AreLeast reach.now columns.now }
-    ensures ok { (pieces : Items PieceOf) (roots : Items ℕ) → ArePlaced set.now columns.now pieces → Reaches (pieces_by pieces) (depth - 1) roots set.now → has nat_cmp roots node ≡ true
+    ensures ok { (near : ℕ → Bool) (pieces : Items PieceOf) (roots : Items ℕ) → ArePlaced near set.now columns.now pieces → Reaches (pieces_by pieces) (depth - 1) roots near set.now → has nat_cmp roots node ≡ true
         → OnOk result (rows.new.rows ≡ rows.old.rows ++ row_text (unfolded (pieces_by pieces) false (depth - 1) (node ∷ []) node) ∷ []) }
     ensures way { OnOk result (IsAtNone columns.now way.new) }
     ensures begun { OnOk result (rows.new.begun ≡ []) }
     ensures limit { rows.new.limit ≡ rows.old.limit }
-    ensures too_large { (pieces : Items PieceOf) (roots : Items ℕ) → ArePlaced set.now columns.now pieces → Reaches (pieces_by pieces) (depth - 1) roots set.now → has nat_cmp roots node ≡ true
+    ensures too_large { (near : ℕ → Bool) (pieces : Items PieceOf) (roots : Items ℕ) → ArePlaced near set.now columns.now pieces → Reaches (pieces_by pieces) (depth - 1) roots near set.now → has nat_cmp roots node ≡ true
         → IsErrOf result TreeFault.TooLarge → rows.old.limit < total (rows.old.rows ++ row_text (unfolded (pieces_by pieces) false (depth - 1) (node ∷ []) node) ∷ []) }
 {
     let Ok(place) = place_of(set.as_slice(), &node) else {
@@ -69,9 +69,9 @@ fn walked(
     requires some { 1 ≤ depth }
     requires most { depth ≤ 32 }
     requires reach { AreLeast reach.now columns.now }
-    ensures rows { (pieces : Items PieceOf) → ArePlaced set.now columns.now pieces → Reaches (pieces_by pieces) (depth - 1) nodes.now set.now
+    ensures rows { (near : ℕ → Bool) (pieces : Items PieceOf) → ArePlaced near set.now columns.now pieces → Reaches (pieces_by pieces) (depth - 1) nodes.now near set.now
         → IfOk result (λ rows. rows.rows ≡ map (λ n. row_text (unfolded (pieces_by pieces) false (depth - 1) (n ∷ []) n)) nodes.now) }
-    ensures too_large { (pieces : Items PieceOf) → ArePlaced set.now columns.now pieces → Reaches (pieces_by pieces) (depth - 1) nodes.now set.now
+    ensures too_large { (near : ℕ → Bool) (pieces : Items PieceOf) → ArePlaced near set.now columns.now pieces → Reaches (pieces_by pieces) (depth - 1) nodes.now near set.now
         → IsErrOf result TreeFault.TooLarge → limit < total (map (λ n. row_text (unfolded (pieces_by pieces) false (depth - 1) (n ∷ []) n)) nodes.now) }
 {
     let mut rows = Rows::within(alloc, limit);
@@ -82,8 +82,8 @@ fn walked(
     Ok(rows)
 }
 
-/// What fields unfold to from nodes, each in its own row, where no node comes again below itself. What nodes show of themselves and
-/// where they lead is fetched once for all that are reached, and then each root is walked along the edges.
+/// What fields unfold to from nodes, each in its own row, where no node comes again below itself. Where nodes lead is fetched once for
+/// all that are reached but those at the last level, and then each root is walked along the edges.
 ///
 /// # Errors
 ///
@@ -104,16 +104,16 @@ pub fn walked_rows<S: Snapshot, L: Ledger>(
     ensures rows { IfOk result (λ rows. rows.rows ≡ map (λ n. row_text (unfolded (pieces_by (planned_pieces true (S.declared snap.now) (S.graph snap.now) vars.now.variables fields.now kept.now)) false (depth - 1) (n ∷ []) n)) nodes.now) }
     ensures too_large { IsErrOf result TreeFault.TooLarge → limit < total (map (λ n. row_text (unfolded (pieces_by (planned_pieces true (S.declared snap.now) (S.graph snap.now) vars.now.variables fields.now kept.now)) false (depth - 1) (n ∷ []) n)) nodes.now) }
 {
-    let set = reached(alloc, snap, depth - 1, fields, kept, vars, nodes, reads)?;
-    let all = fetched_all(alloc, snap, true, fields, kept, vars, set.as_slice(), reads)?;
-    let columns = placed_columns(alloc, snap, &set, all.as_slice(), vars, reads)?;
-    let reach = Reach::of(alloc, columns.as_slice(), set.len(), depth)?;
+    let found = reached(alloc, snap, depth - 1, fields, kept, vars, nodes, reads)?;
+    let all = fetched_all(alloc, snap, true, fields, kept, vars, &[], reads)?;
+    let columns = placed_columns(alloc, snap, &found, all.as_slice(), vars, reads)?;
+    let reach = Reach::of(alloc, columns.as_slice(), found.set.len(), depth)?;
     walked(
         alloc,
         limit,
         columns.as_slice(),
         &reach,
-        &set,
+        &found.set,
         depth,
         nodes.as_slice(),
     )

@@ -20,7 +20,7 @@ use Rattle.dg_level.specs.Keys.{all_count_keys}
 use Rattle.dg_level.specs.Levels.{trees_of, all_trees, all_fields, list_of, left_of, below_trees, leads_to_nodes, own_shown, bare_trees, kept_trees, all_bytes}
 use Rattle.dg_level.proofs.PlannedLaws.{item_count, shows_none, trees_val, trees_edge, trees_bare, shown_is, trees_within}
 use Rattle.dg_level.proofs.ListLaws.{map_twice}
-use Rattle.dg_level.proofs.ShownLaws.{level_shown, left_short, held_within}
+use Rattle.dg_level.proofs.ShownLaws.{level_shown, left_short, none_below, held_within}
 use Rattle.dg_level.proofs.ColumnLaws.{shown_one_more, bytes_more, bytes_front, fields_next, trees_next, all_at_end, all_kept}
 use Rattle.dg_level.proofs.EdgeLaws.{bare_is, own_trees, nodes_trees}
 use Rattle.dg_level.proofs.columns.+level.Goals as goal
@@ -116,8 +116,8 @@ content_of-returns-in_ok-copy_edge-in-Count-clause-shows g t c = λ n.
     ∙ ap (λ (e : QEdge). trees.Int (pos (count_along graph e n)) ∷ []) (sym c.in_ok-copy_edge-in-Count.ensures)
 
 pub content_of-returns-in-CountUid-clause-shows : goal.content_of-returns-in-CountUid-clause-shows
-content_of-returns-in-CountUid-clause-shows g t c =
-    shows_none (g.S.Snapshot.declared c.args.snap.now) (g.S.Snapshot.graph c.args.snap.now) c.args.vars.now.variables c.args.item.now c.args.cascade c.args.kept.now c.in-CountUid.is
+content_of-returns-in-CountUid-clause-shows g t c = λ place n at.
+    shows_none (g.S.Snapshot.declared c.args.snap.now) (g.S.Snapshot.graph c.args.snap.now) c.args.vars.now.variables c.args.item.now c.args.cascade c.args.kept.now c.in-CountUid.is n
 
 pub content_of-returns-in-Val-clause-shows : goal.content_of-returns-in-Val-clause-shows
 content_of-returns-in-Val-clause-shows g t c =
@@ -232,6 +232,25 @@ edge_content-returns-in_err-below-clause-too_large g t c = λ over.
     let all : below_trees schema graph vars e args c.as_slice-2.result.now c.as_slice-3.result.now braces c.as_slice.result.now c.is_single.result c.args.cascade ≡ kept_trees schema graph vars e args braces c.args.cascade (out-Item c.args.kept.now) =
     (λ j. below_trees schema graph vars e args (c.as_slice-2.ensures j) (c.as_slice-3.ensures j) braces (c.as_slice.ensures j) ((c.is_single.ensures ∙ ap is_single sort) j) c.args.cascade) ∙ sym below in
     subst (λ (trees : TreesOf). c.args.limit < bytes_of trees c.args.nodes.now) all (c.below_of.ensures.too_large (search rules))
+
+pub edge_content-returns-then-shows_none-clause-shows : goal.edge_content-returns-then-shows_none-clause-shows
+edge_content-returns-then-shows_none-clause-shows g t c = λ place n at.
+    let schema = g.S.Snapshot.declared c.args.snap.now in
+    let graph = g.S.Snapshot.graph c.args.snap.now in
+    let vars = c.args.vars.now.variables in
+    let e = c.args.edge.now in
+    let args = c.args.args.now in
+    let braces = c.args.braces.now in
+    let def : option_copied c.lookup-definition.result ≡ definition_of schema e.pred = c.lookup-definition.ensures ∙ (λ j. definition_of (c.schema.ensures j) (c.as_str.ensures j)) in
+    let sort : c.sort_of-sort.result ≡ sort_of (definition_of schema e.pred) e.back = c.sort_of-sort.ensures ∙ (λ j. sort_of (def j) e.back) in
+    let yes : c.leads_to_nodes.result ≡ true = search rules in
+    let some : leads_to_nodes (sort_of (definition_of schema e.pred) e.back) ≡ true = sym (c.leads_to_nodes.ensures ∙ ap leads_to_nodes sort) ∙ yes in
+    let below : kept_trees schema graph vars e args braces c.args.cascade (out-Item c.args.kept.now) ≡ below_trees schema graph vars e args c.in-Edge.orders c.in-Edge.filters braces c.in-Edge.inner (is_single (sort_of (definition_of schema e.pred) e.back)) c.args.cascade =
+    λ j n. nodes_trees schema graph vars e args c.args.cascade braces c.args.kept.now c.in-Edge.orders c.in-Edge.filters c.in-Edge.inner c.in-Edge.is n some j in
+    let all : below_trees schema graph vars e args c.as_slice-2.result.now c.as_slice-3.result.now braces c.as_slice.result.now c.is_single.result c.args.cascade ≡ kept_trees schema graph vars e args braces c.args.cascade (out-Item c.args.kept.now) =
+    (λ j. below_trees schema graph vars e args (c.as_slice-2.ensures j) (c.as_slice-3.ensures j) braces (c.as_slice.ensures j) ((c.is_single.ensures ∙ ap is_single sort) j) c.args.cascade) ∙ sym below in
+    none_below c.args.nodes.now c.in_ok-below.below (kept_trees schema graph vars e args braces c.args.cascade (out-Item c.args.kept.now)) place n
+    (subst (λ (trees : TreesOf). IsBelow c.args.nodes.now c.in_ok-below.below trees) all c.in_ok-below.ensures.shows) (c.shows_none.ensures.counts (search rules)) (c.shows_none.ensures.rows (search rules)) at
 
 pub edge_content-returns-clause-shows : goal.edge_content-returns-clause-shows
 edge_content-returns-clause-shows g t c =

@@ -1,4 +1,4 @@
-use Rattle.std.proofs.Common.{◌≡◌, ◌-◌, false, List, [], ◌∷◌, map, take}
+use Rattle.std.proofs.Common.{◌≡◌, ℕ, ◌-◌, Bool, false, List, [], ◌∷◌, map, take}
 use Rattle.dg_recurse.specs.Ways.{IsAtNone}
 use Rattle.dg_level.specs.Looping.{PieceOf, pieces_by}
 use Rattle.dg_level.specs.Placing.{ArePlaced}
@@ -10,7 +10,7 @@ use Rattle.dg_level.proofs.walked.walked.Given as goal
 -- a row for each node so far
 abbrev pub invariant-loop-node : goal.invariant-loop-node
 invariant-loop-node l =
-    ((pieces : List PieceOf) → ArePlaced l.set l.columns pieces → Reaches (pieces_by pieces) (l.depth - 1) l.nodes l.set
+    ((near : ℕ → Bool) (pieces : List PieceOf) → ArePlaced near l.set l.columns pieces → Reaches (pieces_by pieces) (l.depth - 1) l.nodes near l.set
     → l.rows.rows ≡ map (λ n. row_text (unfolded (pieces_by pieces) false (l.depth - 1) (n ∷ []) n)) (take l.node-index l.nodes))
     × (l.rows.begun ≡ [])
     × IsAtNone l.columns l.way
