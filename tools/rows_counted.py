@@ -147,6 +147,19 @@ def level_rows() -> Iterator[tuple[str, str]]:
     yield counted(query, f'{shown},"r":[{",".join(uids(3, 4))}]', by_token=2 + 2, objects=2 + 2)
 
 
+def recursion_rows() -> Iterator[tuple[str, str]]:
+    """Recursions, whose nodes are reached by several ways."""
+    yield "# Of the nodes at the last level the names alone are asked for, and where they lead isn't; of the others that is asked once.", ""
+    query = "{{ q(func: uid(0x1)) @recurse(depth: {}) {{ name friend }} }}"
+    yield counted(query.format(1), block('{"name":"Ann"}'), objects=1)
+    yield counted(query.format(2), block('{"name":"Ann","friend":[{"name":"Cid"},{"name":"Dan"}]}'), objects=3 + 1)
+    last = '"friend":[{"name":"Eve"},{"name":"Fay"}]'
+    shown = block(f'{{"name":"Ann","friend":[{{"name":"Cid",{last}}},{{"name":"Dan",{last}}}]}}')
+    yield counted(query.format(3), shown, objects=5 + 3)
+    yield counted("{ q(func: uid(0x1, 0x2)) @recurse(depth: 2) { friend } }", block(), objects=2)
+    yield counted("{ q(func: uid(0x1)) @recurse(depth: 32) { friend } }", block(), objects=5)
+
+
 def held(filters: str, *nodes: int) -> tuple[str, str]:
     """A row of the nodes with a name at which filters hold, each asked by itself."""
     return f"held\t{{ q(func: has(name)) {filters} {{ uid }} }}", " ".join(map(str, nodes))
@@ -198,6 +211,7 @@ def rows() -> Iterator[tuple[str, str]]:
     yield from term_rows()
     yield from other_rows()
     yield from level_rows()
+    yield from recursion_rows()
     yield from held_rows()
     yield "# With 100 more nodes that have a name the same calls are made.", ""
     yield "set\t" + "\t".join(f"{node} name text:N{node}" for node in range(7, 107)), "133 triples"
