@@ -16,7 +16,7 @@ use dg_values::{Mem, OutOfMemory, Steps};
 use std::alloc::Global;
 use std::sync::ledger::Ledger;
 
-/// Nodes of which was fetched at once: those so many steps from the roots, and no fewer.
+/// The nodes so many edges from the roots and no fewer, with what was fetched of them.
 #[derive(Drop)]
 pub struct Step {
     /// The nodes.
