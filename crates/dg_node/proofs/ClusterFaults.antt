@@ -10,28 +10,28 @@ use Rattle.dg_zero.specs.States as states
 use Rattle.dg_node.specs.Alters.{first_with_data}
 use Rattle.dg_node.specs.Clusters.{IsBeginFault, IsLeaseFault, IsAlterFault, cluster_fault}
 
-pub begin_fault : (h : List Entry) (f : ZeroFault) → states.IsBeginFault (next h) f → IsBeginFault h (cluster_fault f)
-begin_fault h zeros.OutOfMemory is = tt
-begin_fault h (zeros.TimestampsSpent spent) is = is
-begin_fault h (zeros.UidsSpent spent) is = is
-begin_fault h (zeros.Pending start) is = is
-begin_fault h (zeros.Moving pred) is = is
-begin_fault h (zeros.NoGroup group) is = is
-begin_fault h (zeros.SameGroup group) is = is
-begin_fault h zeros.AlreadyMoving is = is
-begin_fault h (zeros.OldCopy group until) is = is
-begin_fault h (zeros.NotMoving phase) is = is
-begin_fault h zeros.NoPredicate is = is
+pub begin_fault : (pred : List ℕ) (h : List Entry) (f : ZeroFault) → states.IsBeginFault (next h) f → IsBeginFault h (cluster_fault pred f)
+begin_fault pred h zeros.OutOfMemory is = tt
+begin_fault pred h (zeros.TimestampsSpent spent) is = is
+begin_fault pred h (zeros.UidsSpent spent) is = is
+begin_fault pred h (zeros.Pending start) is = is
+begin_fault pred h (zeros.Moving held) is = is
+begin_fault pred h (zeros.NoGroup group) is = is
+begin_fault pred h (zeros.SameGroup group) is = is
+begin_fault pred h zeros.AlreadyMoving is = is
+begin_fault pred h (zeros.OldCopy group until) is = is
+begin_fault pred h (zeros.NotMoving phase) is = is
+begin_fault pred h zeros.NoPredicate is = is
 
-pub alter_fault : (h : List Entry) (newer : List PredDef) (f : ZeroFault) → first_with_data (schema h) (world h).graph newer ≡ None → states.IsAlterFault h newer f → IsAlterFault h newer (cluster_fault f)
-alter_fault h newer zeros.OutOfMemory free is = tt
-alter_fault h newer (zeros.TimestampsSpent spent) free is = (is.0, is.1, free, is.2, is.3)
-alter_fault h newer (zeros.UidsSpent spent) free is = is
-alter_fault h newer (zeros.Pending start) free is = is
-alter_fault h newer (zeros.Moving pred) free is = is
-alter_fault h newer (zeros.NoGroup group) free is = is
-alter_fault h newer (zeros.SameGroup group) free is = is
-alter_fault h newer zeros.AlreadyMoving free is = is
-alter_fault h newer (zeros.OldCopy group until) free is = is
-alter_fault h newer (zeros.NotMoving phase) free is = is
-alter_fault h newer zeros.NoPredicate free is = is
+pub alter_fault : (pred : List ℕ) (h : List Entry) (newer : List PredDef) (f : ZeroFault) → first_with_data (schema h) (world h).graph newer ≡ None → states.IsAlterFault h newer f → IsAlterFault h newer (cluster_fault pred f)
+alter_fault pred h newer zeros.OutOfMemory free is = tt
+alter_fault pred h newer (zeros.TimestampsSpent spent) free is = (is.0, is.1, free, is.2, is.3)
+alter_fault pred h newer (zeros.UidsSpent spent) free is = is
+alter_fault pred h newer (zeros.Pending start) free is = is
+alter_fault pred h newer (zeros.Moving held) free is = is
+alter_fault pred h newer (zeros.NoGroup group) free is = is
+alter_fault pred h newer (zeros.SameGroup group) free is = is
+alter_fault pred h newer zeros.AlreadyMoving free is = is
+alter_fault pred h newer (zeros.OldCopy group until) free is = is
+alter_fault pred h newer (zeros.NotMoving phase) free is = is
+alter_fault pred h newer zeros.NoPredicate free is = is

@@ -103,16 +103,24 @@ pub record AltersAt (slip : ℕ) (newer : List PredDef) (result : Result (ℕ ×
   pub fault : IfErr result (IsAlterFault met.history newer)
   pub err : OnErr result (after ≡ and_then met slip events.Look)
 
--- a fault of the state that coordinates all, as one of the cluster
-abbrev pub cluster_fault : ZeroFault → ClusterFault
-cluster_fault zeros.OutOfMemory = faults.OutOfMemory
-cluster_fault (zeros.TimestampsSpent next) = faults.TimestampsSpent next
-cluster_fault (zeros.UidsSpent next) = faults.UidsSpent next
-cluster_fault (zeros.Pending start) = faults.Pending start
-cluster_fault (zeros.Moving pred) = faults.Moving pred
-cluster_fault (zeros.NoGroup group) = faults.NoGroup group
-cluster_fault (zeros.SameGroup group) = faults.SameGroup group
-cluster_fault zeros.AlreadyMoving = faults.AlreadyMoving
-cluster_fault (zeros.OldCopy group until) = faults.OldCopy group until
-cluster_fault (zeros.NotMoving phase) = faults.NotMoving phase
-cluster_fault zeros.NoPredicate = faults.NoPredicate
+-- a fault of the state that coordinates all that leaves out no predicate
+abbrev pub IsWhole : ZeroFault → Type 0
+IsWhole zeros.NoPredicate = ⊥
+IsWhole zeros.AlreadyMoving = ⊥
+IsWhole (zeros.NotMoving phase) = ⊥
+IsWhole (zeros.OldCopy group until) = ⊥
+IsWhole fault = Unit {0}
+
+-- a fault of the state that coordinates all, as one of the cluster, for a call about a predicate
+abbrev pub cluster_fault : List ℕ → ZeroFault → ClusterFault
+cluster_fault pred zeros.OutOfMemory = faults.OutOfMemory
+cluster_fault pred (zeros.TimestampsSpent next) = faults.TimestampsSpent next
+cluster_fault pred (zeros.UidsSpent next) = faults.UidsSpent next
+cluster_fault pred (zeros.Pending start) = faults.Pending start
+cluster_fault pred (zeros.Moving held) = faults.Moving held
+cluster_fault pred (zeros.NoGroup group) = faults.NoGroup group
+cluster_fault pred (zeros.SameGroup group) = faults.SameGroup group
+cluster_fault pred zeros.AlreadyMoving = faults.AlreadyMoving pred
+cluster_fault pred (zeros.OldCopy group until) = faults.OldCopy pred group until
+cluster_fault pred (zeros.NotMoving phase) = faults.NotMoving pred phase
+cluster_fault pred zeros.NoPredicate = faults.NoPredicate pred

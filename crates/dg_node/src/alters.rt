@@ -77,11 +77,11 @@ fn alter_with<C: Cluster>(alloc: Global, cluster: &mut C, author: u32, newer: &S
         }
         Err(ClusterFault::OutOfMemory) => Err(OutOfMemory),
         Err(
-            ClusterFault::NoPredicate
+            ClusterFault::NoPredicate { .. }
             | ClusterFault::UidsSpent { .. }
             | ClusterFault::NoGroup { .. }
             | ClusterFault::SameGroup { .. }
-            | ClusterFault::AlreadyMoving
+            | ClusterFault::AlreadyMoving { .. }
             | ClusterFault::NotMoving { .. }
             | ClusterFault::OldCopy { .. },
         ) => unreachable!(),

@@ -5,13 +5,13 @@ use dg_values::{OutOfMemory, Str};
 use dg_zero::{Begun, CommitFault, Offer, Phase, Slip, ZeroFault};
 use std::alloc::Global;
 
-/// Why a cluster refuses a call. Faults of a tablet's move leave out the predicate, which the caller handed in.
+/// Why a cluster refuses a call.
 #[derive(Debug, Drop)]
 pub enum ClusterFault {
     /// There is not enough memory.
     OutOfMemory,
     /// The predicate isn't declared.
-    NoPredicate,
+    NoPredicate { pred: Str },
     /// So many nodes aren't left; `next` is the next one.
     UidsSpent { next: u64 },
     /// The tablet of this predicate is held.
@@ -24,14 +24,14 @@ pub enum ClusterFault {
     NoGroup { group: u32 },
     /// The group is the owner.
     SameGroup { group: u32 },
-    /// The tablet is moving.
-    AlreadyMoving,
-    /// The tablet is in another phase.
-    NotMoving { phase: Phase },
+    /// The tablet of this predicate is moving.
+    AlreadyMoving { pred: Str },
+    /// The tablet of this predicate is in another phase.
+    NotMoving { pred: Str, phase: Phase },
     /// The next timestamp would be 2^62, which is none; `next` is the next one.
     TimestampsSpent { next: u64 },
-    /// The group keeps an old copy, which may be read up to `until`.
-    OldCopy { group: u32, until: u64 },
+    /// The group keeps an old copy of this predicate, which may be read up to `until`.
+    OldCopy { pred: Str, group: u32, until: u64 },
 }
 
 /// Want of memory is a fault of its own.
@@ -46,14 +46,29 @@ impl From<OutOfMemory> for ClusterFault {
     }
 }
 
-/// A refusal of the state that coordinates all is one of the cluster.
-impl From<ZeroFault> for ClusterFault {
-    ghost use Rattle.std.specs.Prelude.{◌≡◌};
-    ghost use Rattle.dg_node.specs.Clusters.{cluster_fault};
+impl ClusterFault {
+    ghost use Rattle.std.specs.Prelude.{◌≡◌, List, ℕ};
+    ghost use Rattle.dg_node.specs.Clusters.{IsWhole, cluster_fault};
 
-    ghost from_gives = { λ zero cluster. cluster ≡ cluster_fault zero };
+    /// A refusal of the state that coordinates all, for a call about a predicate: where it leaves out the predicate, which
+    /// the caller handed in, it gets it back.
+    pub fn about(pred: Str, fault: ZeroFault) -> ClusterFault
+        ensures { result ≡ cluster_fault pred fault }
+    {
+        match fault {
+            ZeroFault::NoPredicate => ClusterFault::NoPredicate { pred },
+            ZeroFault::AlreadyMoving => ClusterFault::AlreadyMoving { pred },
+            ZeroFault::NotMoving { phase } => ClusterFault::NotMoving { pred, phase },
+            ZeroFault::OldCopy { group, until } => ClusterFault::OldCopy { pred, group, until },
+            whole => ClusterFault::whole(whole),
+        }
+    }
 
-    fn from(fault: ZeroFault) -> ClusterFault {
+    /// The same for a call that hands in no predicate, and so isn't refused by a fault that leaves one out.
+    pub fn whole(fault: ZeroFault) -> ClusterFault
+        requires { IsWhole fault }
+        ensures { (pred : List ℕ) → result ≡ cluster_fault pred fault }
+    {
         match fault {
             ZeroFault::OutOfMemory => ClusterFault::OutOfMemory,
             ZeroFault::TimestampsSpent { next } => ClusterFault::TimestampsSpent { next },
@@ -62,10 +77,10 @@ impl From<ZeroFault> for ClusterFault {
             ZeroFault::Moving { pred } => ClusterFault::Moving { pred },
             ZeroFault::NoGroup { group } => ClusterFault::NoGroup { group },
             ZeroFault::SameGroup { group } => ClusterFault::SameGroup { group },
-            ZeroFault::AlreadyMoving => ClusterFault::AlreadyMoving,
-            ZeroFault::OldCopy { group, until } => ClusterFault::OldCopy { group, until },
-            ZeroFault::NotMoving { phase } => ClusterFault::NotMoving { phase },
-            ZeroFault::NoPredicate => ClusterFault::NoPredicate,
+            ZeroFault::NoPredicate
+            | ZeroFault::AlreadyMoving
+            | ZeroFault::NotMoving { .. }
+            | ZeroFault::OldCopy { .. } => unreachable!(),
         }
     }
 }
@@ -151,8 +166,9 @@ pub trait Cluster {
         ensures alters { Meets (takes self.old) (zero self.old) (zero self.new) (AltersAt slip newer.now result) }
         ensures legal { IsLegal (zero self.new).groups (zero self.new).history };
 
-    /// Whether the present schema declares a predicate, as far as the caller has seen. It appends nothing and takes no
-    /// memory.
+    /// Whether the present schema declares a predicate, as far as caller 0 has seen, by whom all alters are made. It
+    /// appends nothing and takes no memory.
     fn declared(&self, pred: &str) -> bool
+        requires own { takes self.now 0 ≡ true }
         ensures { result ≡ is_declared (schema (zero self.now).history) pred.now };
 }

@@ -190,13 +190,13 @@ fn lease<C: Cluster>(
         }
         Err(
             ClusterFault::OutOfMemory
-            | ClusterFault::NoPredicate
+            | ClusterFault::NoPredicate { .. }
             | ClusterFault::Moving { .. }
             | ClusterFault::Pending { .. }
             | ClusterFault::HasData { .. }
             | ClusterFault::NoGroup { .. }
             | ClusterFault::SameGroup { .. }
-            | ClusterFault::AlreadyMoving
+            | ClusterFault::AlreadyMoving { .. }
             | ClusterFault::NotMoving { .. }
             | ClusterFault::TimestampsSpent { .. }
             | ClusterFault::OldCopy { .. },

@@ -1,7 +1,10 @@
 // The state that coordinates all, and the groups that follow it.
-ghost use Rattle.std.specs.Prelude.{◌≡◌, ◌+◌, ◌-◌, ◌^◌, ◌<◌, ◌≤◌, [], true, None, Some, IfOk, IfErr, OnOk, OnErr, if◌then◌else◌};
+ghost use Rattle.std.specs.Prelude.{◌≡◌, ◌+◌, ◌-◌, ◌^◌, ◌<◌, ◌≤◌, [], true, None, Some, IfOk, IfErr, OnOk, OnErr, if◌then◌else◌, map};
 ghost use Rattle.std.specs.Arc.{arc_value};
+ghost use Rattle.std.specs.List.{AllByRecursion};
 ghost use Rattle.dg_graph.specs.Graphs.{IsLawful};
+ghost use Rattle.dg_group.specs.Groups.{Group};
+ghost use Rattle.dg_group.specs.Stands.{IsInStep};
 ghost use Rattle.dg_oracle.specs.Commits.{is_active};
 ghost use Rattle.dg_schema.specs.Definitions.{with_definitions};
 ghost use Rattle.dg_txn.specs.Pins.{ArePinsOf};
@@ -10,7 +13,7 @@ ghost use Rattle.dg_zero.specs.Legal.{IsLegal};
 ghost use Rattle.dg_zero.specs.Listings.{AreGainsAndLosses};
 ghost use Rattle.dg_zero.specs.Offers.{IsSound, IsMadeOf};
 ghost use Rattle.dg_zero.specs.Pasts.{spent};
-ghost use Rattle.dg_zero.specs.Places.{tablets};
+ghost use Rattle.dg_zero.specs.Places.{groups, tablets};
 ghost use Rattle.dg_zero.specs.States.{and_then, owners, alter_of, commit_of, first_held, IsBeginFault, IsAlterFault, IsRefusal, KeepKinds, AreAlterParts};
 ghost use Rattle.dg_zero.specs.Verdicts.{verdict};
 ghost use Rattle.dg_node.specs.Alters.{first_with_data};
@@ -25,9 +28,10 @@ use dg_edges::schema_deltas;
 use dg_group::{GroupState, Pinned, entries_of_histories};
 use dg_keys::Part;
 use dg_schema::Schema;
+use dg_turn::Logged;
 use dg_txn::Present;
 use dg_values::{List, Mem, OutOfMemory, Steps};
-use dg_zero::{Begun, CommitFault, Event, Offer, Slip, ZeroFault, ZeroState};
+use dg_zero::{Begun, CommitFault, Entry, Event, Offer, Slip, ZeroFault, ZeroState};
 use std::alloc::Global;
 use std::marker::{Brand, Model};
 use std::sync::Arc;
@@ -49,6 +53,15 @@ impl Model for Owned {
     ghost view = { λ owned. owned.zero };
 
     ghost invariant = { λ owned. IsOwned owned.zero owned.groups.items };
+}
+
+/// It has Zero's history.
+impl Logged for Owned {
+    type Entry = Entry;
+
+    ghost history = { λ owned. owned.history };
+
+    ghost author = { λ e. e.author };
 }
 
 impl Owned {
@@ -83,8 +96,12 @@ impl Owned {
         &self.zero
     }
 
-    /// The groups, in the order of their numbers, each with what it has applied so far.
-    pub fn groups(&self) -> &[GroupState] {
+    /// The groups, in the order of their numbers, each with what it has applied so far. Each is in step with the history:
+    /// its lists agree with it as far as it has applied it.
+    pub fn groups(&self) -> &[GroupState]
+        ensures numbers { map (λ (g : Group). g.number) result.now ≡ groups self.now.groups }
+        ensures in_step { AllByRecursion (λ g. IsInStep g self.now.history) result.now }
+    {
         self.groups.as_slice()
     }
 
@@ -232,14 +249,14 @@ impl Cluster for Owned {
         };
         match self.zero.begin(slip) {
             Ok(begun) => Ok((begun, pins)),
-            Err(fault) => Err(ClusterFault::from(fault)),
+            Err(fault) => Err(ClusterFault::whole(fault)),
         }
     }
 
     fn lease(&mut self, slip: Slip, top: u64, count: u64) -> Result<u64, ClusterFault> {
         match self.zero.lease(slip, top, count) {
             Ok(first) => Ok(first),
-            Err(fault) => Err(ClusterFault::from(fault)),
+            Err(fault) => Err(ClusterFault::whole(fault)),
         }
     }
 
@@ -268,7 +285,7 @@ impl Cluster for Owned {
         entries_of_histories();
         match self.zero.alter(slip, newer, parts) {
             Ok(drawn) => Ok(drawn),
-            Err(fault) => Err(ClusterFault::from(fault)),
+            Err(fault) => Err(ClusterFault::whole(fault)),
         }
     }
 

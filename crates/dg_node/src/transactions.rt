@@ -56,14 +56,14 @@ pub fn begin<C: Cluster>(
         }
         Err(ClusterFault::OutOfMemory) => Err(OutOfMemory),
         Err(
-            ClusterFault::NoPredicate
+            ClusterFault::NoPredicate { .. }
             | ClusterFault::UidsSpent { .. }
             | ClusterFault::Moving { .. }
             | ClusterFault::Pending { .. }
             | ClusterFault::HasData { .. }
             | ClusterFault::NoGroup { .. }
             | ClusterFault::SameGroup { .. }
-            | ClusterFault::AlreadyMoving
+            | ClusterFault::AlreadyMoving { .. }
             | ClusterFault::NotMoving { .. }
             | ClusterFault::OldCopy { .. },
         ) => unreachable!(),

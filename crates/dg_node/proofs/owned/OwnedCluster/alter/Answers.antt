@@ -1,4 +1,4 @@
-use Rattle.std.proofs.Common.{◌≡◌, true, None, subst, sym, ◌∙◌}
+use Rattle.std.proofs.Common.{◌≡◌, true, [], None, subst, sym, ◌∙◌}
 use Rattle.dg_zero.specs.States.{Zero, AreAlterParts}
 use Rattle.dg_zero.specs.Worlds.{schema, world}
 use Rattle.dg_node.specs.declared.cluster.ClusterFault.{ClusterFault}
@@ -50,7 +50,7 @@ returns-clause-alters c =
         none_held = tt;
         no_data = tt;
         not_spent = tt;
-        fault = subst (λ (f : ClusterFault). IsAlterFault z.history newer f) (sym w.from.ensures) (alter_fault z.history newer w.in-Err-alter.fault free w.in-Err-alter.ensures.fault);
+        fault = subst (λ (f : ClusterFault). IsAlterFault z.history newer f) (sym (w.whole.ensures [])) (alter_fault [] z.history newer w.in-Err-alter.fault free w.in-Err-alter.ensures.fault);
         err = w.in-Err-alter.ensures.err;
       })
     ]))

@@ -1,4 +1,4 @@
-use Rattle.std.proofs.Common.{true, subst, sym}
+use Rattle.std.proofs.Common.{true, [], subst, sym}
 use Rattle.dg_zero.specs.Counters.{next}
 use Rattle.dg_zero.specs.States.{Zero}
 use Rattle.dg_node.specs.declared.cluster.ClusterFault.{ClusterFault}
@@ -35,7 +35,7 @@ returns-clause-begins c = subst (λ (z : Zero). Meets (λ n. true) z c.begin.new
         pins = tt;
         ok = tt;
         not_spent = tt;
-        fault = subst (λ (f : ClusterFault). IsBeginFault c.self.inside.zero.history f) (sym w.from.ensures) (begin_fault c.self.inside.zero.history w.in-Err.fault w.in-Err.ensures.fault);
+        fault = subst (λ (f : ClusterFault). IsBeginFault c.self.inside.zero.history f) (sym (w.whole.ensures [])) (begin_fault [] c.self.inside.zero.history w.in-Err.fault w.in-Err.ensures.fault);
         err = w.in-Err.ensures.err;
       })
     ]))
