@@ -36,6 +36,9 @@ fn nearer(reach: &Reach, way: &Way, node: usize, given: Nearest) -> Nearest
     ensures edges { result.edges ≤ given.edges }
     ensures far { is_far reach.now way.now.path.items way.now.raised.items result.edges node ≡ true }
 {
+    if reach.edges(node) >= given.edges {
+        return given;
+    }
     let edges = edges_of(reach, way, node);
     if edges >= given.edges || way.is_on(node) {
         return given;
