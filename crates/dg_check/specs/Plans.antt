@@ -112,7 +112,7 @@ keys_of ds list = filter_map (key_of ds) list
 
 -- a pattern is built from a text and its flag
 abbrev pub IsPatternOf : List ℕ → List ℕ → Bool → Func → Type 0
-IsPatternOf pred text fold (made.Regexp p regex) = (p ≡ pred) × IsBuiltFrom text fold regex
+IsPatternOf pred text fold (made.Regexp p regex) = (p ≡ pred) × IsBuiltFrom text fold regex.value
 IsPatternOf pred text fold f = ⊥
 
 -- a function with its literals as values, its pattern as it is built and its variables as places

@@ -1,5 +1,5 @@
 // The names that each block defines and uses.
-ghost use Rattle.std.specs.Prelude.{◌≡◌, IfOk, map};
+ghost use Rattle.std.specs.Prelude.{◌≡◌, IfOk, flat_map, map};
 ghost use Rattle.dg_check.specs.Places.{places_met, places_of_block};
 ghost use Rattle.dg_check.specs.Variables.{uses_met};
 ghost use Rattle.dg_check.specs.Blocks.{names_of_block, names_of_blocks};
@@ -10,7 +10,7 @@ use crate::uses::{Use, uses_of_places};
 use crate::variables::{all_names, definitions_of};
 use dg_parse::QBlock;
 use dg_schema::Schema;
-use dg_values::{Mem, OutOfMemory};
+use dg_values::{Mem, OutOfMemory, Str};
 use std::alloc::Global;
 
 /// The names that a block defines, and those that it uses.
@@ -60,6 +60,17 @@ pub fn names_of_blocks<'a>(alloc: Global, blocks: &'a [QBlock]) -> Mem<Vec<Block
     let mut names = Vec::new(alloc);
     for block in blocks {
         names.push(names_of_one(alloc, block)?)?;
+    }
+    Ok(names)
+}
+
+/// Copies of the names that blocks define, in their order. The error is want of memory.
+pub fn defined_names(alloc: Global, blocks: &[BlockNames<'_>]) -> Mem<Vec<Str>>
+    ensures { IfOk result (λ names. names.items ≡ flat_map (λ block. block.defined) blocks.now) }
+{
+    let mut names = Vec::new(alloc);
+    for block in blocks {
+        block.defined.add_copies(alloc, &mut names)?;
     }
     Ok(names)
 }

@@ -10,7 +10,7 @@ ghost use Rattle.dg_check.specs.Numbers.{is_suspect, AreSuspects};
 ghost use Rattle.dg_check.specs.Faults.{cycle};
 
 use crate::CheckFault;
-use crate::blocks::BlockNames;
+use crate::blocks::{BlockNames, defined_names};
 use crate::names::Names;
 use crate::needs::dependencies;
 use crate::order::can_all_run;
@@ -193,11 +193,7 @@ fn first_circular(
 fn names_in_order(alloc: Global, blocks: &[BlockNames<'_>]) -> Mem<Vec<Str>>
     ensures { IfOk result (λ names. names.items ≡ ascending text_cmp (flat_map (λ block. block.defined) blocks.now)) }
 {
-    let mut names = Vec::new(alloc);
-    for block in blocks {
-        block.defined.add_copies(alloc, &mut names)?;
-    }
-    Ok(in_order(names))
+    Ok(in_order(defined_names(alloc, blocks)?))
 }
 
 // The least variable that is used in a block on which its own depends.

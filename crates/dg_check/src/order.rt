@@ -42,6 +42,21 @@ fn run_if_ready(deps: &[List<usize>], ran: &mut Ran, at: usize) -> Mem<()>
     ran.push(at)
 }
 
+// Lets blocks run in the order of the text, up to the first that isn't ready. So all have run where each stands behind those that it
+// needs.
+fn run_in_turn(deps: &[List<usize>], ran: &mut Ran) -> Mem<()>
+    requires { are_ready deps.now [] ran.old ≡ true }
+    ensures { OnOk result (are_ready deps.now [] ran.new ≡ true) }
+{
+    for at in 0..deps.len() {
+        run_if_ready(deps, ran, at)?;
+        if !ran.has(at) {
+            return Ok(());
+        }
+    }
+    Ok(())
+}
+
 // The functions from here to `run_free` decide only which blocks are tried, and when: whether one runs, `run_if_ready` tests.
 
 // For each block how many needs it has.
@@ -112,6 +127,18 @@ fn run_free(alloc: Global, deps: &[List<usize>], ran: &mut Ran) -> Mem<()>
     Ok(())
 }
 
+// Lets blocks run in turn, and the others by counts of what each still needs.
+fn run_early(alloc: Global, deps: &[List<usize>], ran: &mut Ran) -> Mem<()>
+    requires { are_ready deps.now [] ran.old ≡ true }
+    ensures { OnOk result (are_ready deps.now [] ran.new ≡ true) }
+{
+    run_in_turn(deps, ran)?;
+    if ran.as_slice().len() < deps.len() {
+        run_free(alloc, deps, ran)?;
+    }
+    Ok(())
+}
+
 // The first block that hasn't run and needs none that hasn't.
 fn first_ready(deps: &[List<usize>], ran: &Ran) -> Option<usize>
     ensures { result ≡ first_ready ran.now 0 deps.now }
@@ -143,7 +170,7 @@ fn run_blocks(alloc: Global, deps: &[List<usize>]) -> Mem<Ran>
     ensures same { IfOk result (λ ran. (at : ℕ) → is_place_in ran at ≡ is_place_in (run_order deps.now) at) }
 {
     let mut ran = Ran::none(alloc);
-    run_free(alloc, deps, &mut ran)?;
+    run_early(alloc, deps, &mut ran)?;
     run_rest(deps, &mut ran)?;
     Ok(ran)
 }
@@ -169,9 +196,17 @@ pub fn can_all_run(alloc: Global, blocks: &[BlockNames<'_>]) -> Mem<bool>
     Ok(have_all_run(&ran, blocks.len()))
 }
 
-/// The places of a query's blocks in an order in which they can run: each is a block that hasn't run, and comes after those
-/// whose variables it uses. A block that waits for itself isn't there, nor is one that waits for such a block. The error is
-/// want of memory.
+/// The places of blocks in an order in which they can run: each is a block that hasn't run, and comes after those whose variables
+/// it uses. A block that waits for itself isn't there, nor is one that waits for such a block. The error is want of memory.
+pub fn order_among(alloc: Global, blocks: &[BlockNames<'_>]) -> Mem<Vec<usize>>
+    ensures ready { IfOk result (λ order. are_ready (dependencies blocks.now) [] order.items ≡ true) }
+    ensures same { IfOk result (λ order. (at : ℕ) → is_place_in order.items at ≡ is_place_in (run_order (dependencies blocks.now)) at) }
+{
+    let deps = dependencies(alloc, blocks)?;
+    Ok(run_blocks(alloc, deps.as_slice())?.into_order())
+}
+
+/// The same of a query's blocks.
 #[tactic(auto, using(crate::proofs::OrderLaws::ready_is_ordered))]
 pub fn order_of(alloc: Global, query: &Query) -> Mem<Vec<usize>>
     ensures ready { IfOk result (λ order. are_ready (dependencies (names_of_blocks query.now.blocks)) [] order.items ≡ true) }
@@ -179,6 +214,5 @@ pub fn order_of(alloc: Global, query: &Query) -> Mem<Vec<usize>>
     ensures same { IfOk result (λ order. (at : ℕ) → is_place_in order.items at ≡ is_place_in (order_of query.now) at) }
 {
     let blocks = names_of_blocks(alloc, query.blocks.as_slice())?;
-    let deps = dependencies(alloc, blocks.as_slice())?;
-    Ok(run_blocks(alloc, deps.as_slice())?.into_order())
+    order_among(alloc, blocks.as_slice())
 }

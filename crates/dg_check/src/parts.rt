@@ -64,8 +64,8 @@ pub enum Func {
     Regexp {
         /// The predicate of the node's texts.
         pred: Str,
-        /// The pattern, as the maker built it.
-        pattern: Regex,
+        /// The pattern, as the maker built it. It is large, so it stands apart from what is moved with the function.
+        pattern: Box<Regex>,
     },
     /// `uid_in`: one of the nodes is an object of the edge.
     UidIn {

@@ -12,19 +12,19 @@ ghost use Rattle.dg_check.specs.Patterns.{IsFrontOf};
 ghost use Rattle.dg_check.specs.Parts.{Takes, asked_of_block, AreBlocksOf};
 ghost use Rattle.dg_check.specs.Outcomes.{fault_before, unless, IsOutcome, IsQueryOutcome, IsUpsertOutcome, IsPlanOf, IsFaultOf, IsFaultOfUpsert};
 
-use crate::blocks::{BlockNames, names_of_blocks};
+use crate::blocks::{BlockNames, defined_names, names_of_blocks};
 use crate::building::parts_of;
 use crate::checking::{fault_of_pages, fault_of_variables, uses_of_upsert};
 use crate::cycles::cycle;
 use crate::finding::first_found;
 use crate::indexes::Indexed;
 use crate::literals::{Literals, Variables};
-use crate::order::order_of;
+use crate::order::order_among;
 use crate::places::{Place, places_of};
 use crate::plan::Read;
 use crate::reading::read_places;
 use crate::uses::{Use, uses_of_places};
-use crate::variables::{copied_names, definitions_of};
+use crate::variables::definitions_of;
 use crate::{Blocks, CheckFault, Patterns, Plan};
 use dg_parse::{Query, Upsert};
 use dg_schema::Schema;
@@ -167,15 +167,16 @@ fn read_upsert<P: Patterns>(
     )
 }
 
-// The names of a query's variables, in the order in which the text defines them. What these have isn't asked, so no schema is
-// needed.
-fn variables_of(alloc: Global, query: &Query) -> Mem<List<Str>>
-    ensures { IfOk result (λ vars. vars ≡ names_for false (definitions_in [] (places_of_query query.now))) }
+// The order in which a query's blocks run, and the names of its variables in the order in which the text defines them.
+fn order_and_names(alloc: Global, query: &Query) -> Mem<(List<usize>, List<Str>)>
+    ensures ready { IfOk result (λ made. are_ready (dependencies (names_of_blocks query.now.blocks)) [] made.0 ≡ true) }
+    ensures there { IfOk result (λ made. (at : ℕ) → is_place_in made.0 at ≡ is_place_in (order_of query.now) at) }
+    ensures vars { IfOk result (λ made. made.1 ≡ names_for false (definitions_in [] (places_of_query query.now))) }
 {
-    let schema = Schema::new(alloc);
-    let places = places_of(alloc, query)?;
-    let definitions = definitions_of(alloc, &schema, places.as_slice())?;
-    copied_names(alloc, definitions.as_slice())
+    let blocks = names_of_blocks(alloc, query.blocks.as_slice())?;
+    let order = order_among(alloc, blocks.as_slice())?;
+    let names = defined_names(alloc, blocks.as_slice())?;
+    Ok((List::from_vec(order), List::from_vec(names)))
 }
 
 // The plan of a query, of which this was read.
@@ -186,8 +187,7 @@ fn plan_of(alloc: Global, query: Query, read: List<Read>) -> Mem<Plan>
     ensures ready { IfOk result (λ plan. are_ready (dependencies (names_of_blocks query.blocks)) [] plan.order ≡ true) }
     ensures there { IfOk result (λ plan. (at : ℕ) → is_place_in plan.order at ≡ is_place_in (order_of query) at) }
 {
-    let order = List::from_vec(order_of(alloc, &query)?);
-    let vars = variables_of(alloc, &query)?;
+    let (order, vars) = order_and_names(alloc, &query)?;
     let parts = parts_of(alloc, query.blocks.as_slice(), read)?;
     Ok(Plan {
         query,

@@ -139,9 +139,10 @@ fn read_pattern<P: Patterns>(
     let name = pred.copy(alloc)?;
     match patterns.build(alloc, pattern.as_str(), fold) {
         Ok(regex) => {
+            let pattern = Box::new(alloc, regex)?;
             let func = Func::Regexp {
                 pred: name,
-                pattern: regex,
+                pattern,
             };
             Ok(Ok(Some(Read::Func(func))))
         }

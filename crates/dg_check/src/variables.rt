@@ -99,17 +99,6 @@ pub fn all_names<'a>(alloc: Global, definitions: &[Definition<'a>]) -> Mem<Names
     Ok(names)
 }
 
-/// Copies of the names of all variables.
-pub fn copied_names(alloc: Global, definitions: &[Definition<'_>]) -> Mem<List<Str>>
-    ensures { IfOk result (λ names. names ≡ names_for false (definitions_met definitions.now)) }
-{
-    let mut names = Vec::new(alloc);
-    for definition in definitions {
-        names.push(Str::from_str(alloc, definition.name)?)?;
-    }
-    Ok(List::from_vec(names))
-}
-
 /// The names of those that have values.
 pub fn valued_names<'a>(alloc: Global, definitions: &[Definition<'a>]) -> Mem<Names<'a>>
     ensures { IfOk result (λ names. names ≡ names_for true (definitions_met definitions.now)) }

@@ -104,7 +104,7 @@ module _ (ds : List Definition) (graph : List Triple) (vars : List Variable) whe
   pattern_means : (p pattern : List ℕ) (fold : Bool) (node : ℕ) (f : Func) → IsPatternOf p pattern fold f → list_any (found_by pattern fold) (texts_at graph p node) ≡ holds_at graph vars node f
   pattern_means p pattern fold node (made.Regexp own regex) h =
       let back = sym h.0 in
-      any_by (found_by pattern fold) (finds regex) (built_found pattern fold regex h.1) (texts_at graph p node) ∙ λ i. list_any (finds regex) (texts_at graph (back i) node)
+      any_by (found_by pattern fold) (finds regex.value) (built_found pattern fold regex.value h.1) (texts_at graph p node) ∙ λ i. list_any (finds regex.value) (texts_at graph (back i) node)
   pattern_means p pattern fold node f h = absurd h
 
   pattern_nodes : (p pattern : List ℕ) (fold : Bool) (f : Func) → IsPatternOf p pattern fold f → text_candidates graph (names_for false ds) vars (said.Regexp p pattern fold) ≡ candidates graph vars f

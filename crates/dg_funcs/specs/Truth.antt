@@ -106,7 +106,7 @@ holds_at graph vars node (funcs.Cmp op of kind values) = list_any (stands_to_any
 holds_at graph vars node (funcs.Between of kind values) = list_any (is_between values) (compared graph vars of node)
 holds_at graph vars node (funcs.Has edge) = nat_le 1 (count_along graph edge node)
 holds_at graph vars node (funcs.Terms all p text) = list_any (λ t. has_terms all (terms_of text) (terms_of t)) (texts_at graph p node)
-holds_at graph vars node (funcs.Regexp p pattern) = list_any (finds pattern) (texts_at graph p node)
+holds_at graph vars node (funcs.Regexp p pattern) = list_any (finds pattern.value) (texts_at graph p node)
 holds_at graph vars node (funcs.UidIn edge named) = list_any (has nat_cmp (named_nodes vars named)) (nodes_along graph edge node)
 
 -- `or` holds where a part does, `and` where all do

@@ -46,8 +46,8 @@ returns-in-Regexp g c =
     let vars = c.args.vars.now.variables in
     let nodes = c.args.nodes.now in
     let back = sym c.in-Regexp.is in
-    let e : filter (λ n. list_any (found_in (regex_pattern c.in-Regexp.pattern)) (texts_at graph c.as_str-in-Regexp.result.now n)) nodes ≡ filter (λ n. holds_at graph vars n c.args.func.now) nodes =
-    (λ i. filter (λ n. list_any (found_in (regex_pattern c.in-Regexp.pattern)) (texts_at graph (c.as_str-in-Regexp.ensures i) n)) nodes)
+    let e : filter (λ n. list_any (found_in (regex_pattern c.deref.result.now)) (texts_at graph c.as_str-in-Regexp.result.now n)) nodes ≡ filter (λ n. holds_at graph vars n c.args.func.now) nodes =
+    (λ i. filter (λ n. list_any (found_in (regex_pattern (c.deref.ensures i))) (texts_at graph (c.as_str-in-Regexp.ensures i) n)) nodes)
     ∙ λ i. filter (λ n. holds_at graph vars n (back i)) nodes in
     subst (λ (ys : List ℕ). IfOk c.held_matching.result (λ uids. uids ≡ ys)) e c.held_matching.ensures
 
