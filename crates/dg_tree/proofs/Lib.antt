@@ -1,2 +1,3 @@
 -- Lemmas on the text of an answer.
 pub mod Commas
+pub mod Plain

@@ -1,2 +1,3 @@
 -- The text of an answer.
 pub mod Texts
+pub mod Plain
