@@ -10,7 +10,7 @@ use Rattle.dg_recurse.specs.Unfolding.{is_on}
 use Rattle.dg_recurse.specs.Rows.{objects_of, joined, enclosed}
 use Rattle.dg_recurse.specs.Columns.{nodes_of}
 use Rattle.dg_recurse.specs.Written.{edge_text, column_text, row_at, child_at, IsDry}
-use Rattle.dg_recurse.specs.Near.{is_nothing, is_bare, are_near, AreLeast}
+use Rattle.dg_recurse.specs.Near.{is_nothing, is_bare, are_near, AreNear}
 
 pub both : (a b : Bool) → (a && b) ≡ true → (a ≡ true) × (b ≡ true)
 both true b e = (refl, e)
@@ -124,7 +124,7 @@ dry_more fetched path most place bare dry = by
 
 -- ---- by how near places are
 
-least_parts : (near : List ℕ) (fetched : List Column) (place : ℕ) → AreLeast near fetched → 0 < get_or near place 0
+least_parts : (near : List ℕ) (fetched : List Column) (place : ℕ) → AreNear near fetched → 0 < get_or near place 0
     → (is_bare fetched place ≡ true) × (list_all (λ column. are_near near (get_or near place 0) (nodes_of column place)) fetched ≡ true)
 least_parts near fetched place least far = by (either (get_or near place 0 == 0) _ (least place))
   where
@@ -136,11 +136,11 @@ least_parts near fetched place least far = by (either (get_or near place 0 == 0)
     by (inl e) = absurd (omega (arith, far, eqb-true (get_or near place 0) 0 e))
     by (inr e) = both (is_bare fetched place) (list_all (λ column. are_near near (get_or near place 0) (nodes_of column place)) fetched) e
 
-pub bare_far : (near : List ℕ) (fetched : List Column) (place : ℕ) → AreLeast near fetched → 0 < get_or near place 0 → is_bare fetched place ≡ true
+pub bare_far : (near : List ℕ) (fetched : List Column) (place : ℕ) → AreNear near fetched → 0 < get_or near place 0 → is_bare fetched place ≡ true
 bare_far near fetched place least far = (least_parts near fetched place least far).0
 
 -- a place from which none that shows something of itself is near enough is dry
-pub dry_far : (near : List ℕ) (fetched : List Column) (path : List ℕ) → AreLeast near fetched → (most place : ℕ) → most < get_or near place 0 → IsDry fetched path most place
+pub dry_far : (near : List ℕ) (fetched : List Column) (path : List ℕ) → AreNear near fetched → (most place : ℕ) → most < get_or near place 0 → IsDry fetched path most place
 dry_far near fetched path least zero place far = dry_here fetched path place (bare_far near fetched place least far)
 dry_far near fetched path least (suc most) place far =
     let parts = least_parts near fetched place least (omega (arith, far)) in

@@ -5,3 +5,4 @@ pub mod WayLaws
 pub mod WalkLaws
 pub mod UnfoldLaws
 pub mod NameLaws
+pub mod LeafLaws

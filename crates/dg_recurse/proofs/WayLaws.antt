@@ -10,7 +10,7 @@ use Rattle.dg_recurse.specs.declared.way.Way.{Way}
 use Rattle.dg_recurse.specs.Columns.{nodes_of}
 use Rattle.dg_recurse.specs.Unfolding.{is_on}
 use Rattle.dg_recurse.specs.Written.{child_at, IsDry}
-use Rattle.dg_recurse.specs.Near.{AreLeast}
+use Rattle.dg_recurse.specs.Near.{AreNear}
 use Rattle.dg_recurse.specs.Ways.{are_on, Covers, no_raise, raise_at, raised_at, IsLearned, IsSound, IsSoundWay, IsKept, IsAtNone, far_at, is_far, are_far, are_far_from}
 use Rattle.dg_recurse.proofs.DryLaws.{both, either, or_left, or_right, each_on, dry_here, dry_more, dry_far, bare_far, no_child, ChildrenDry}
 
@@ -102,7 +102,7 @@ module _ (near : List ℕ) (raised : List Raised) (place : ℕ) where
 either_less : (a b left : ℕ) → left < max a b → (left < a) ⊎ (left < b)
 either_less a b left lt = grind (arith, lt)
 
-module _ (fetched : List Column) (path near : List ℕ) (raised : List Raised) (least : AreLeast near fetched) (sound : IsSound fetched raised) where
+module _ (fetched : List Column) (path near : List ℕ) (raised : List Raised) (least : AreNear near fetched) (sound : IsSound fetched raised) where
   dry_raised : (place left : ℕ) → left < raised_at path raised place → IsDry fetched path left place
   dry_raised place left lt =
       let so = valid path (get_or raised place no_raise) left lt in
@@ -174,7 +174,7 @@ pub kept_then : (fetched : List Column) (a b c : Way) → IsKept fetched a b →
 kept_then fetched a b c f g = record { path = g.path ∙ f.path; sound = g.sound }
 
 -- a place is told one edge more than all to which it leads, on whatever path the blockers of these are
-pub learned_kept : (fetched : List Column) (near : List ℕ) → AreLeast near fetched → (before after : Way) (place edges : ℕ) (found : Raised) → IsSoundWay fetched before
+pub learned_kept : (fetched : List Column) (near : List ℕ) → AreNear near fetched → (before after : Way) (place edges : ℕ) (found : Raised) → IsSoundWay fetched before
     → after.path ≡ before.path → IsLearned before.raised.items after.raised.items place found
     → 0 < get_or near place 0 → are_far_from fetched near found.blockers before.raised.items edges place ≡ true → found.edges ≤ edges + 1 → IsKept fetched before after
 learned_kept fetched near least before after place edges found sound path learned far all upto = record {
@@ -186,12 +186,12 @@ learned_kept fetched near least before after place edges found sound path learne
 }
 
 -- nothing is shown of a place that is told more edges than may be followed
-pub dry_told : (fetched : List Column) (near : List ℕ) → AreLeast near fetched → (from way : Way) (place left : ℕ) → IsKept fetched from way → left < far_at near way.path.items way.raised.items place
+pub dry_told : (fetched : List Column) (near : List ℕ) → AreNear near fetched → (from way : Way) (place left : ℕ) → IsKept fetched from way → left < far_at near way.path.items way.raised.items place
     → IsDry fetched from.path.items left place
 dry_told fetched near least from way place left kept lt =
     subst (λ (path : List ℕ). IsDry fetched path left place) kept.path (dry_at fetched way.path.items near way.raised.items least kept.sound place left lt)
 
-pub far_child : (fetched : List Column) (near : List ℕ) → AreLeast near fetched → (from way : Way) (place left : ℕ) → IsKept fetched from way → left < far_at near way.path.items way.raised.items place
+pub far_child : (fetched : List Column) (near : List ℕ) → AreNear near fetched → (from way : Way) (place left : ℕ) → IsKept fetched from way → left < far_at near way.path.items way.raised.items place
     → child_at fetched left from.path.items place ≡ []
 far_child fetched near least from way place left kept lt = no_child fetched from.path.items left place (dry_told fetched near least from way place left kept lt)
 

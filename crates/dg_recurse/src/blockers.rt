@@ -32,9 +32,9 @@ fn add_all(blockers: &mut List<usize>, nodes: &[usize]) -> Mem<()>
 // Adds the blockers of a node that is on the path or so far: itself where it is on the path, those of what was learned of it, or
 // none where it is so far on any path.
 fn add_for(reach: &Reach, way: &Way, edges: u8, node: usize, blockers: &mut List<usize>) -> Mem<()>
-    requires { is_far reach.now way.now.path.items way.now.raised.items edges node ≡ true }
+    requires { is_far reach.now.edges way.now.path.items way.now.raised.items edges node ≡ true }
     ensures kept { OnOk result (Covers blockers.old blockers.new) }
-    ensures far { OnOk result (is_far reach.now blockers.new way.now.raised.items edges node ≡ true) }
+    ensures far { OnOk result (is_far reach.now.edges blockers.new way.now.raised.items edges node ≡ true) }
 {
     if reach.edges(node) >= edges {
         return Ok(());
@@ -53,9 +53,9 @@ fn add_for_all(
     nodes: &[usize],
     blockers: &mut List<usize>,
 ) -> Mem<()>
-    requires { are_far reach.now way.now.path.items way.now.raised.items edges nodes.now ≡ true }
+    requires { are_far reach.now.edges way.now.path.items way.now.raised.items edges nodes.now ≡ true }
     ensures kept { OnOk result (Covers blockers.old blockers.new) }
-    ensures far { OnOk result (are_far reach.now blockers.new way.now.raised.items edges nodes.now ≡ true) }
+    ensures far { OnOk result (are_far reach.now.edges blockers.new way.now.raised.items edges nodes.now ≡ true) }
 {
     for node in nodes {
         add_for(reach, way, edges, *node, blockers)?;
@@ -72,8 +72,8 @@ pub fn blockers_of(
     edges: u8,
     place: usize,
 ) -> Mem<List<usize>>
-    requires { are_far_from columns.now reach.now way.now.path.items way.now.raised.items edges place ≡ true }
-    ensures { IfOk result (λ blockers. are_far_from columns.now reach.now blockers way.now.raised.items edges place ≡ true) }
+    requires { are_far_from columns.now reach.now.edges way.now.path.items way.now.raised.items edges place ≡ true }
+    ensures { IfOk result (λ blockers. are_far_from columns.now reach.now.edges blockers way.now.raised.items edges place ≡ true) }
 {
     let mut blockers = List::new(way.alloc);
     for column in columns {

@@ -1,26 +1,30 @@
 // How near places are to one that shows something of itself.
-ghost use Rattle.std.specs.Prelude.{◌≡◌, ◌+◌, nat_le, length, slice_index_or, IfOk, IsTrue};
+ghost use Rattle.std.specs.Prelude.{◌≡◌, ◌+◌, ◌∷◌, [], List, ℕ, Some, nat_le, length, map, slice_get, slice_index_or, IfOk, OnOk, IsTrue};
+ghost use Rattle.std.specs.Option.{option_map};
 ghost use Rattle.std.specs.List.{list_all};
 ghost use Rattle.dg_recurse.specs.Columns.{own_of, nodes_of};
-ghost use Rattle.dg_recurse.specs.Near.{is_nothing, is_bare, are_near, is_least, AreLeast};
+ghost use Rattle.dg_recurse.specs.Near.{is_nothing, is_bare, are_near, is_least, own_row, AreNear, AreLeast};
+ghost use Rattle.dg_recurse.specs.Rows.{joined};
 
 use crate::Column;
-use dg_values::{Mem, OutOfMemory};
+use dg_values::{Mem, OutOfMemory, Str};
 use std::alloc::Global;
 use std::marker::Model;
 
-/// For each place, how many edges lead from it at least to one that shows something of itself.
+/// For each place, how many edges lead from it at least to one that shows something of itself, and its row where no edge is followed
+/// any more.
 #[derive(Drop)]
 pub struct Reach {
     near: Vec<u8>,
+    rows: Vec<Str>,
 }
 
 impl Model for Reach {
-    ghost use Rattle.std.specs.Prelude.{List, ℕ};
+    ghost use Rattle.dg_recurse.specs.Near.{Reached};
 
-    ghost Value = { List ℕ };
+    ghost Value = { Reached };
 
-    ghost view = { λ r. r.near.items };
+    ghost view = { λ r. record { edges = r.near.items; rows = r.rows.items } };
 }
 
 // The number of edges at a place: none behind the last.
@@ -80,7 +84,7 @@ fn is_least(columns: &[Column], near: &[u8], place: usize) -> bool
 
 // Whether that holds of all places.
 fn are_least(columns: &[Column], near: &[u8]) -> bool
-    ensures { IsTrue result → AreLeast near.now columns.now }
+    ensures { IsTrue result → AreNear near.now columns.now }
 {
     for place in 0..near.len() {
         if !is_least(columns, near, place) {
@@ -130,12 +134,48 @@ fn begun(alloc: Global, columns: &[Column], count: usize, most: u8) -> Mem<Vec<u
     Ok(near)
 }
 
+// Adds a text behind others, with a comma, unless it is empty.
+fn add_text(out: &mut Str, text: &str) -> Mem<()>
+    ensures { OnOk result (out.new ≡ joined (out.old ∷ text.now ∷ [])) }
+{
+    if text.is_empty() {
+        return Ok(());
+    }
+    if !out.is_empty() {
+        out.push_str(",")?;
+    }
+    out.push_str(text)
+}
+
+// The row of the node at a place, where no edge is followed any more.
+fn row_of(alloc: Global, columns: &[Column], place: usize) -> Mem<Str>
+    ensures { IfOk result (λ row. row ≡ own_row columns.now place) }
+{
+    let mut out = Str::from_string(String::new(alloc));
+    for column in columns {
+        add_text(&mut out, column.own(place))?;
+    }
+    Ok(out)
+}
+
+// Those of all places below `count`.
+fn rows_of(alloc: Global, columns: &[Column], count: usize) -> Mem<Vec<Str>>
+    ensures { IfOk result (λ rows. (place : ℕ) (row : List ℕ) → slice_get rows.items place ≡ Some row → row ≡ own_row columns.now place) }
+{
+    let mut rows = Vec::with_capacity(alloc, count)?;
+    for place in 0..count {
+        rows.push(row_of(alloc, columns, place)?)?;
+    }
+    Ok(rows)
+}
+
 impl Reach {
     /// How near the places below `count` are, where the nodes to which columns lead are below `count`, and paths have at
     /// most `depth` nodes. From `depth` edges on it isn't told how many there are.
     ///
     /// It goes over all lists once for each edge of the longest way that is told, so it takes little time for a graph in
-    /// which names are near. The error is want of memory.
+    /// which names are near. What a node shows of itself is put together here once, so that a walk that ends at it doesn't go over
+    /// all columns each time. The error is want of memory.
     pub fn of(alloc: Global, columns: &[Column], count: usize, depth: u32) -> Mem<Reach>
         ensures { IfOk result (λ reach. AreLeast reach columns.now) }
     {
@@ -149,20 +189,28 @@ impl Reach {
         if !are_least(columns, near.as_slice()) {
             near = Vec::new(alloc);
         }
-        Ok(Reach { near })
+        let rows = rows_of(alloc, columns, count)?;
+        Ok(Reach { near, rows })
     }
 
     /// How many places there are.
     pub(crate) fn len(&self) -> usize
-        ensures { result ≡ length self.now }
+        ensures { result ≡ length self.now.edges }
     {
         self.near.len()
     }
 
     /// How many edges lead from a place at least to one that shows something of itself, or fewer.
     pub(crate) fn edges(&self, place: usize) -> u8
-        ensures { result ≡ slice_index_or self.now place 0 }
+        ensures { result ≡ slice_index_or self.now.edges place 0 }
     {
         edges_at(self.near.as_slice(), place)
+    }
+
+    /// The row of the node at a place, where no edge is followed any more. None behind the last.
+    pub(crate) fn row(&self, place: usize) -> Option<&Str>
+        ensures { option_map (λ row. row.now) result ≡ slice_get self.now.rows place }
+    {
+        self.rows.as_slice().get(place)
     }
 }

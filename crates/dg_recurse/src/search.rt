@@ -19,14 +19,14 @@ struct Nearest {
 
 // How many edges a place is away at least from one that shows something of itself.
 fn edges_of(reach: &Reach, way: &Way, place: usize) -> u8
-    ensures { result ≡ far_at reach.now way.now.path.items way.now.raised.items place }
+    ensures { result ≡ far_at reach.now.edges way.now.path.items way.now.raised.items place }
 {
     reach.edges(place).max(way.edges(place))
 }
 
 /// Whether a node is farther than so many edges from any place that shows something of itself, off the path.
 pub fn is_too_far(reach: &Reach, way: &Way, left: u32, node: usize) -> bool
-    ensures { IsTrue result ↔ (left < far_at reach.now way.now.path.items way.now.raised.items node) }
+    ensures { IsTrue result ↔ (left < far_at reach.now.edges way.now.path.items way.now.raised.items node) }
 {
     u32::from(reach.edges(node)) > left || u32::from(way.edges(node)) > left
 }
@@ -34,7 +34,7 @@ pub fn is_too_far(reach: &Reach, way: &Way, left: u32, node: usize) -> bool
 // A node, if it is off the path and nearer than the one given.
 fn nearer(reach: &Reach, way: &Way, node: usize, given: Nearest) -> Nearest
     ensures edges { result.edges ≤ given.edges }
-    ensures far { is_far reach.now way.now.path.items way.now.raised.items result.edges node ≡ true }
+    ensures far { is_far reach.now.edges way.now.path.items way.now.raised.items result.edges node ≡ true }
 {
     if reach.edges(node) >= given.edges {
         return given;
@@ -49,7 +49,7 @@ fn nearer(reach: &Reach, way: &Way, node: usize, given: Nearest) -> Nearest
 // The nearest of these nodes that is off the path, or the one given, where none is nearer; or one that is near enough.
 fn nearest_of(reach: &Reach, way: &Way, nodes: &[usize], given: Nearest, enough: u8) -> Nearest
     ensures edges { result.edges ≤ given.edges }
-    ensures far { enough ≤ result.edges → are_far reach.now way.now.path.items way.now.raised.items result.edges nodes.now ≡ true }
+    ensures far { enough ≤ result.edges → are_far reach.now.edges way.now.path.items way.now.raised.items result.edges nodes.now ≡ true }
 {
     let mut best = given;
     for node in nodes {
@@ -64,7 +64,7 @@ fn nearest_of(reach: &Reach, way: &Way, nodes: &[usize], given: Nearest, enough:
 // The nearest node to which columns lead from a place, off the path, or one that is nearer than `enough`. Where there is none it is
 // farther than any.
 fn nearest_from(columns: &[Column], reach: &Reach, way: &Way, place: usize, enough: u8) -> Nearest
-    ensures { enough ≤ result.edges → are_far_from columns.now reach.now way.now.path.items way.now.raised.items result.edges place ≡ true }
+    ensures { enough ≤ result.edges → are_far_from columns.now reach.now.edges way.now.path.items way.now.raised.items result.edges place ≡ true }
 {
     let mut best = Nearest {
         edges: u8::MAX,
@@ -81,8 +81,8 @@ fn nearest_from(columns: &[Column], reach: &Reach, way: &Way, place: usize, enou
 fn learn(columns: &[Column], reach: &Reach, way: &mut Way, place: usize, edges: u8) -> Mem<()>
     requires near { AreLeast reach.now columns.now }
     requires sound { IsSoundWay columns.now way.old }
-    requires bare { 0 < slice_index_or reach.now place 0 }
-    requires far { are_far_from columns.now reach.now way.old.path.items way.old.raised.items edges place ≡ true }
+    requires bare { 0 < slice_index_or reach.now.edges place 0 }
+    requires far { are_far_from columns.now reach.now.edges way.old.path.items way.old.raised.items edges place ≡ true }
     ensures kept { OnOk result (IsKept columns.now way.old way.new) }
 {
     let blockers = blockers_of(columns, reach, way, edges, place)?;

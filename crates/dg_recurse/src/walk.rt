@@ -1,5 +1,6 @@
 // The row of a node, by a walk along the edges.
-ghost use Rattle.std.specs.Prelude.{◌≡◌, ℕ, ◌-◌, ◌≤◌, ◌<◌, ◌∷◌, ◌++◌, [], true, false, List, length, map, codes, IfOk, OnOk, IsErrOf};
+ghost use Rattle.std.specs.Prelude.{◌≡◌, ℕ, ◌-◌, ◌≤◌, ◌<◌, ◌∷◌, ◌++◌, [], true, false, List, length, map, codes, IfOk, IfSome, OnOk, IsErrOf};
+ghost use Rattle.dg_recurse.specs.declared.column.Column.{Column};
 ghost use Rattle.dg_tree.specs.Texts.{with_commas};
 ghost use Rattle.dg_recurse.specs.Unfolding.{Piece, unfolded};
 ghost use Rattle.dg_recurse.specs.Rows.{row_text, objects_of, enclosed};
@@ -15,6 +16,27 @@ use crate::{Column, Reach};
 use dg_tree::TreeFault;
 use dg_values::Str;
 use std::alloc::Global;
+
+// The row of a node behind whom no edge is followed any more, if it is told.
+fn leaf(
+    alloc: Global,
+    reach: &Reach,
+    limit: usize,
+    left: u32,
+    node: usize,
+) -> Result<Option<Str>, TreeFault>
+    ensures text { (fetched : List Column) (path : List ℕ) → AreLeast reach.now fetched → IfOk result (λ row. IfSome row (λ text. text ≡ row_at fetched left path node)) }
+    ensures within { IfOk result (λ row. IfSome row (λ text. length text ≤ limit)) }
+    ensures too_large { (fetched : List Column) (path : List ℕ) → AreLeast reach.now fetched → IsErrOf result TreeFault.TooLarge → limit < length (row_at fetched left path node) }
+{
+    if left != 0 {
+        return Ok(None);
+    }
+    match reach.row(node) {
+        None => Ok(None),
+        Some(row) => Ok(Some(enclose(alloc, limit, "", row.as_str(), "")?)),
+    }
+}
 
 // The row of a node at the end of the path.
 #[cycle(walk)]
@@ -33,6 +55,9 @@ fn row(
     ensures within { IfOk result (λ text. length text ≤ limit) }
     ensures too_large { IsErrOf result TreeFault.TooLarge → limit < length (row_at columns.now left way.old.path.items node) }
 {
+    if let Some(whole) = leaf(way.alloc, reach, limit, left, node)? {
+        return Ok(whole);
+    }
     let mut out = Str::from_string(String::new(way.alloc));
     for column in columns {
         let room = limit - out.len();

@@ -4,4 +4,4 @@ use Rattle.dg_recurse.proofs.blockers.add_for_all.Given as goal
 
 -- the blockers of those so far are there
 abbrev pub invariant-loop-node : goal.invariant-loop-node
-invariant-loop-node l = Covers l.initial.blockers l.blockers × (are_far l.reach l.blockers l.way.raised.items l.edges (take l.node-index l.nodes) ≡ true)
+invariant-loop-node l = Covers l.initial.blockers l.blockers × (are_far l.reach.edges l.blockers l.way.raised.items l.edges (take l.node-index l.nodes) ≡ true)

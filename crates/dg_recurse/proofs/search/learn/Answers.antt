@@ -7,7 +7,7 @@ pub returns : goal.returns
 returns c = record {
   kept =
       on_ok_weaker c.learn.result (
-      λ learned. learned_kept c.args.columns.now c.args.reach.now c.requires.near c.args.way.now c.learn.new.self c.args.place c.args.edges (record { edges = c.saturating_add.result; blockers = c.in_ok-blockers.blockers })
+      λ learned. learned_kept c.args.columns.now c.args.reach.now.edges c.requires.near.near c.args.way.now c.learn.new.self c.args.place c.args.edges (record { edges = c.saturating_add.result; blockers = c.in_ok-blockers.blockers })
       c.requires.sound
       c.learn.ensures.path
       learned

@@ -8,7 +8,7 @@ loop-node-preserved c =
     let near = c.nearer-best in
     let lt : l.node-index < length c.args.nodes.now = omega (arith, c.loop-node-test.true) in (
       omega (arith, near.ensures.edges, l.invariant.0),
-      λ enough. node_more c.args.reach.now c.args.way.now.raised.items c.args.way.now.path.items c.args.way.now.path.items near.result.edges l.best.edges (λ n on. on) near.ensures.edges c.args.nodes.now l.node-index lt
+      λ enough. node_more c.args.reach.now.edges c.args.way.now.raised.items c.args.way.now.path.items c.args.way.now.path.items near.result.edges l.best.edges (λ n on. on) near.ensures.edges c.args.nodes.now l.node-index lt
           (l.invariant.1 (omega (arith, enough, near.ensures.edges)))
           near.ensures.far,
     )

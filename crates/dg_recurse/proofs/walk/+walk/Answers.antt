@@ -1,8 +1,9 @@
 use Rattle.std.proofs.Common.{◌≡◌, ℕ, ◌-◌, ◌<◌, ◌≤◌, Bool, List, [], ◌∷◌, map, get_or, length, codes, sym, ap, ◌∙◌, subst, arith, rules}
+use Rattle.std.specs.Prelude.{Option, IfSome}
 use Rattle.std.proofs.lemmas.Result.{IfOk-weaker}
 use Rattle.dg_recurse.specs.declared.column.Column.{Column}
 use Rattle.dg_recurse.specs.Rows.{objects_of, joined, enclosed}
-use Rattle.dg_recurse.specs.Written.{edge_text, column_text, child_at, object_at, rows_behind}
+use Rattle.dg_recurse.specs.Written.{edge_text, column_text, row_at, child_at, object_at, rows_behind}
 use Rattle.dg_recurse.proofs.RowLaws.{objects_joined, longer, bare_enclosed}
 use Rattle.dg_recurse.proofs.WalkLaws.{then_joined, none_joined, whole_passes, room_passes, all_parts, row_is, none_more, first_is, first_passes, array_is}
 use Rattle.dg_recurse.proofs.WayLaws.{still_sound, far_child, kept_then, left_again}
@@ -78,7 +79,7 @@ all_objects-loop-node-preserved-then-is_too_far t c =
     let x = get_or nodes l.node-index 0 in
     let path = c.args.way.now.path.items in
     let lt : l.node-index < length nodes = omega (arith, c.loop-node-test.true) in
-    let none : child_at c.args.columns.now c.args.left path x ≡ [] = far_child c.args.columns.now c.args.reach.now c.requires.near c.args.way.now l.way x c.args.left l.invariant.0 (c.is_too_far.ensures.0 c.if-is_too_far.true) in (
+    let none : child_at c.args.columns.now c.args.left path x ≡ [] = far_child c.args.columns.now c.args.reach.now.edges c.requires.near.near c.args.way.now l.way x c.args.left l.invariant.0 (c.is_too_far.ensures.0 c.if-is_too_far.true) in (
       l.invariant.0,
       none_joined (object_at c.args.columns.now c.args.left path) nodes l.node-index 0 lt l.out l.invariant.1 (ap (λ (text : List ℕ). enclosed (codes "{") text (codes "}")) none),
       l.invariant.2,
@@ -129,6 +130,11 @@ first_row-loop-node-preserved t c =
     )
 
 -- ---- a row
+
+pub row-returns-in-Some-clause-text : goal.row-returns-in-Some-clause-text
+row-returns-in-Some-clause-text t c =
+    subst (λ (o : Option (List ℕ)). IfSome o (λ text. text ≡ row_at c.args.columns.now c.args.left c.args.way.now.path.items c.args.node)) c.in-Some.is
+    (c.in_ok-whole.ensures.text c.args.columns.now c.args.way.now.path.items c.requires.near)
 
 pub row-returns-in_err-text-clause-too_large : goal.row-returns-in_err-text-clause-too_large
 row-returns-in_err-text-clause-too_large t c = λ e.
