@@ -1,10 +1,11 @@
 use Rattle.std.proofs.Common.{◌≡◌, ℕ, ◌⊎◌, inl, inr, Bool, true, false, ◌||◌, eqb, List, [], ◌∷◌, drop, length, refl, sym, ◌∙◌, lit<}
-use Rattle.std.specs.Prelude.{IsTrue}
+use Rattle.std.specs.Prelude.{IsTrue, ◌≢◌, Option, Some, None, cond, find, IfNone}
 use Rattle.std.specs.List.{list_any, starts_with}
+use Rattle.std.specs.Str.{bytes_eq}
 use Rattle.std.proofs.lemmas.Bool.{false≢true}
 use Rattle.std.proofs.lemmas.Bool.Decides.{Decides-eqb}
 use Rattle.std.proofs.lemmas.List.Folds.{list_any_at}
-use Rattle.std.proofs.lemmas.Slice.Eq.{starts_is}
+use Rattle.std.proofs.lemmas.Slice.Eq.{starts_is, bytes_eq-Decides}
 use Rattle.dg_wire.specs.declared.verb.TheConstants.Verb.{ALL}
 use Rattle.dg_wire.specs.declared.verb.Verb.{Verb}
 use Rattle.dg_wire.specs.declared.verb.Verb.TheVariants as verbs
@@ -47,3 +48,19 @@ names_begin word r is = (
       (found.0, (drop (length word) (name_of found.0), sym ((starts_is Decides-eqb (name_of found.0) word (starts_with eqb (name_of found.0) word) refl).0 found.1))),
   λ (verb, (rest, e)). is ∙ passed (λ v. starts_with eqb (name_of v) word) verb ((starts_is Decides-eqb (name_of verb) word (starts_with eqb (name_of verb) word) refl).1 rest (sym e)),
 )
+
+-- where none is found, none passes
+none_pass : (p : Verb → Bool) (vs : List Verb) → find p vs ≡ None → list_any p vs ≡ false
+none_pass p [] e = refl
+none_pass p (v ∷ vs) e = by (p v) (none_pass p vs) e
+  where
+    by : (b : Bool) → (find p vs ≡ None → list_any p vs ≡ false) → cond b (Some v) (find p vs) ≡ None → (b || list_any p vs) ≡ false
+    by true more e = cc
+    by false more e = more e
+
+-- where no verb is found by its name, none has that name
+pub none_named : (word : List ℕ) (found : Option Verb) → found ≡ find (λ verb. bytes_eq (name_of verb) word) ALL → IfNone found ((verb : Verb) → word ≢ name_of verb)
+none_named word (Some verb) is = tt
+none_named word None is = λ verb same.
+    let test = λ (v : Verb). bytes_eq (name_of v) word in
+    false≢true (sym (none_pass test ALL (sym is)) ∙ passed test verb ((bytes_eq-Decides (name_of verb) word).1 (sym same)))

@@ -1,6 +1,6 @@
 // Scripts made from a seed and a number of nodes.
-ghost use Rattle.std.specs.Prelude.{◌≡◌, ◌<◌, ◌≤◌, ◌+◌, ◌*◌, [], ◌∷◌, IfOk, OnOk, OnErr, IfSome, IfNone};
-ghost use Rattle.dg_wire.specs.Frames.{frames, IsRequest, IsBody};
+ghost use Rattle.std.specs.Prelude.{◌≡◌, ◌<◌, ◌≤◌, ◌+◌, ◌*◌, [], ◌∷◌, ◌++◌, IfOk, OnOk, OnErr, IfSome, IfNone};
+ghost use Rattle.dg_wire.specs.Frames.{frame, frames, IsRequest, IsBody};
 ghost use Rattle.dg_wire.specs.Generator.{generated, batch_len, batch_body};
 
 use crate::draws::Draws;
@@ -172,7 +172,14 @@ pub fn gen_script(alloc: Global, seed: u32, size: u32) -> Mem<Vec<u8>>
     let mut text = Vec::new(alloc);
     let mut generator = Generator::new(seed, size);
     while let Some(request) = generator.next(alloc)? {
-        write_frame(alloc, &mut text, &request)?;
+        write_one(alloc, &mut text, request)?;
     }
     Ok(text)
+}
+
+// Appends the frame of a request.
+fn write_one(alloc: Global, text: &mut Vec<u8>, request: Request) -> Mem<()>
+    ensures { OnOk result (text.new.items ≡ text.old.items ++ frame request) }
+{
+    write_frame(alloc, text, &request)
 }
