@@ -240,7 +240,7 @@ class Running:
         line = self.child.stdout.readline().decode()
         if not line:
             raise SystemExit("the program ended before its time")
-        if line.startswith(("ok mutate ", "ok query ")):
+        if line.startswith(("ok mutate ", "ok query ", "ok upsert ")):
             self.child.stdout.read(int(line.split()[-1]) + 1)
         return line
 
@@ -249,10 +249,15 @@ class Running:
         took: list[float] = []
         line = ""
         while sum(took) < LONG or len(took) < LEAST:
-            started = time.perf_counter()
-            line = self.ask(request)
-            took.append(time.perf_counter() - started)
+            seconds, line = self.once(request)
+            took.append(seconds)
         return min(took), line
+
+    def once(self, request: bytes) -> tuple[float, str]:
+        """The time of a request, and the first line of its reply."""
+        started = time.perf_counter()
+        line = self.ask(request)
+        return time.perf_counter() - started, line
 
     def end(self) -> int:
         """Ends the program, and gives the most kilobytes that it had."""

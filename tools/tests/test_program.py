@@ -30,7 +30,7 @@ class Verbs(unittest.TestCase):
     """The shell offers the verbs that the program takes, and no others."""
 
     def test_they_are_those_of_the_source(self) -> None:
-        names = re.findall(r'b"([a-z]+)" => Some\(Verb::', source("verb.rt"))
+        names = re.findall(r'Verb::\w+ => b"([a-z]+)"', source("verb.rt"))
         self.assertEqual(sorted(names), sorted(VERBS))
 
     def test_the_program_takes_each(self) -> None:
