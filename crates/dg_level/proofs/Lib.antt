@@ -12,6 +12,7 @@ pub mod ColumnLaws
 pub mod EdgeLaws
 pub mod ShortLaws
 pub mod WholeLaws
+pub mod LeftLaws
 pub mod TextLaws
 pub mod MeaningLaws
 pub mod BlockLaws

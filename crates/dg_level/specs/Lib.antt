@@ -21,6 +21,7 @@ pub mod Rows
 pub mod Columns
 pub mod Keys
 pub mod Levels
+pub mod Left
 pub mod Flats
 pub mod FlatLevels
 pub mod Unfolding

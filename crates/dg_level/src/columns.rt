@@ -8,12 +8,14 @@ ghost use Rattle.dg_level.specs.Answers.{shown};
 ghost use Rattle.dg_level.specs.Rows.{total, row_text};
 ghost use Rattle.dg_level.specs.Planned.{value_kept, planned_field, planned_at};
 ghost use Rattle.dg_level.specs.Columns.{held_by, room_of, bytes_of, IsBelow, ShowsBy, Shows, AreShown};
+ghost use Rattle.dg_level.specs.Left.{IsLeft, AreLeft, IsLeftUnder, IsLeftBy};
 ghost use Rattle.dg_level.specs.Levels.{trees_of, all_trees, all_fields, below_trees, own_shown, bare_trees, kept_trees, all_bytes};
 
 use crate::Rows;
 use crate::column::{Below, Column, Content, held_by, shows_none};
 use crate::directives::cascades;
 use crate::keys::{counts_of, key_text};
+use crate::left::{Left, next_left};
 use crate::lists::{lists_of, nodes_below};
 use crate::sorts::{Sort, is_single, leads_to_nodes, sort_of};
 use crate::whole::left_lists;
@@ -23,7 +25,7 @@ use dg_graph::Snapshot;
 use dg_parse::{QArg, QEdge, QField, QItem};
 use dg_schema::PredDef;
 use dg_tree::TreeFault;
-use dg_values::{Mem, OutOfMemory, Steps, Str};
+use dg_values::{List, Mem, OutOfMemory, Steps, Str};
 use std::alloc::Global;
 use std::sync::ledger::Ledger;
 
@@ -95,8 +97,8 @@ pub fn value_content(kept: &Item) -> Content
 
 /// What the nodes of a level show, each in its own row. Each list is read once for each node of a level and each field, and
 /// the row of a node of the level below is made once, whatever number of nodes lead to it. Where a cascade goes on from above, or
-/// an edge begins one, lists lose the nodes at which a field is missing, before anything is made of these; for that the lists below
-/// are read once more.
+/// an edge begins one, lists lose the nodes at which a field is missing, before anything is made of these. For that the lists below
+/// are read once more where a cascade begins; what is found out then is known in all levels below.
 ///
 /// # Errors
 ///
@@ -111,15 +113,16 @@ pub fn level_rows<S: Snapshot, L: Ledger>(
     kept: &[Field],
     vars: &Vars,
     nodes: &[u64],
+    left: List<Left>,
     reads: &mut Steps<L>,
 ) -> Result<Rows, TreeFault>
-    ensures rows { IfOk result (λ rows. rows.rows ≡ map (λ n. row_text (planned_at (S.declared snap.now) (S.graph snap.now) vars.now.variables cascade fields.now kept.now n)) nodes.now) }
+    ensures rows { AreLeft (S.declared snap.now) (S.graph snap.now) vars.now.variables fields.now kept.now nodes.now left → IfOk result (λ rows. rows.rows ≡ map (λ n. row_text (planned_at (S.declared snap.now) (S.graph snap.now) vars.now.variables cascade fields.now kept.now n)) nodes.now) }
     ensures limit { IfOk result (λ rows. rows.limit ≡ limit) }
     ensures begun { IfOk result (λ rows. rows.begun ≡ []) }
-    ensures too_large { IsErrOf result TreeFault.TooLarge → limit < total (map (λ n. row_text (planned_at (S.declared snap.now) (S.graph snap.now) vars.now.variables cascade fields.now kept.now n)) nodes.now) }
+    ensures too_large { AreLeft (S.declared snap.now) (S.graph snap.now) vars.now.variables fields.now kept.now nodes.now left → IsErrOf result TreeFault.TooLarge → limit < total (map (λ n. row_text (planned_at (S.declared snap.now) (S.graph snap.now) vars.now.variables cascade fields.now kept.now n)) nodes.now) }
 {
     let columns = columns_of(
-        alloc, snap, limit, cascade, fields, kept, vars, nodes, reads,
+        alloc, snap, limit, cascade, fields, kept, vars, nodes, left, reads,
     )?;
     written(alloc, snap, limit, columns.as_slice(), vars, nodes, reads)
 }
@@ -135,13 +138,15 @@ fn columns_of<S: Snapshot, L: Ledger>(
     kept: &[Field],
     vars: &Vars,
     nodes: &[u64],
+    left: List<Left>,
     reads: &mut Steps<L>,
 ) -> Result<Vec<Column>, TreeFault>
-    ensures shown { IfOk result (λ columns. AreShown (S.graph snap.now) vars.now.variables nodes.now columns.items (all_fields (S.declared snap.now) (S.graph snap.now) vars.now.variables cascade fields.now kept.now)) }
-    ensures too_large { IsErrOf result TreeFault.TooLarge → limit < all_bytes (all_trees (S.declared snap.now) (S.graph snap.now) vars.now.variables cascade fields.now kept.now) nodes.now }
+    ensures shown { AreLeft (S.declared snap.now) (S.graph snap.now) vars.now.variables fields.now kept.now nodes.now left → IfOk result (λ columns. AreShown (S.graph snap.now) vars.now.variables nodes.now columns.items (all_fields (S.declared snap.now) (S.graph snap.now) vars.now.variables cascade fields.now kept.now)) }
+    ensures too_large { AreLeft (S.declared snap.now) (S.graph snap.now) vars.now.variables fields.now kept.now nodes.now left → IsErrOf result TreeFault.TooLarge → limit < all_bytes (all_trees (S.declared snap.now) (S.graph snap.now) vars.now.variables cascade fields.now kept.now) nodes.now }
 {
     let mut columns = Vec::new(alloc);
     let mut used = 0;
+    let mut known = left.into_vec().into_iter();
     for (place, field) in fields.iter().enumerate() {
         if place >= kept.len() {
             return Ok(columns);
@@ -156,6 +161,7 @@ fn columns_of<S: Snapshot, L: Ledger>(
             part,
             vars,
             nodes,
+            next_left(&mut known),
             reads,
         )?;
         used += held_by(&column.content);
@@ -175,12 +181,13 @@ fn column_of<S: Snapshot, L: Ledger>(
     kept: &Field,
     vars: &Vars,
     nodes: &[u64],
+    left: Left,
     reads: &mut Steps<L>,
 ) -> Result<Column, TreeFault>
-    ensures shows { IfOk result (λ column. Shows (S.graph snap.now) vars.now.variables nodes.now column ((planned_field (S.declared snap.now) (S.graph snap.now) vars.now.variables field.now).at cascade kept.now)) }
-    ensures held { IfOk result (λ column. held_by column.content ≤ bytes_of (trees_of (S.declared snap.now) (S.graph snap.now) vars.now.variables cascade field.now.item kept.now.item) nodes.now) }
+    ensures shows { IsLeft (S.declared snap.now) (S.graph snap.now) vars.now.variables field.now.item kept.now.item nodes.now left → IfOk result (λ column. Shows (S.graph snap.now) vars.now.variables nodes.now column ((planned_field (S.declared snap.now) (S.graph snap.now) vars.now.variables field.now).at cascade kept.now)) }
+    ensures held { IsLeft (S.declared snap.now) (S.graph snap.now) vars.now.variables field.now.item kept.now.item nodes.now left → IfOk result (λ column. held_by column.content ≤ bytes_of (trees_of (S.declared snap.now) (S.graph snap.now) vars.now.variables cascade field.now.item kept.now.item) nodes.now) }
     ensures within { IfOk result (λ column. room_of column.content ≤ limit) }
-    ensures too_large { IsErrOf result TreeFault.TooLarge → limit < bytes_of (trees_of (S.declared snap.now) (S.graph snap.now) vars.now.variables cascade field.now.item kept.now.item) nodes.now }
+    ensures too_large { IsLeft (S.declared snap.now) (S.graph snap.now) vars.now.variables field.now.item kept.now.item nodes.now left → IsErrOf result TreeFault.TooLarge → limit < bytes_of (trees_of (S.declared snap.now) (S.graph snap.now) vars.now.variables cascade field.now.item kept.now.item) nodes.now }
 {
     let key = key_text(alloc, field)?;
     let content = content_of(
@@ -192,6 +199,7 @@ fn column_of<S: Snapshot, L: Ledger>(
         &kept.item,
         vars,
         nodes,
+        left,
         reads,
     )?;
     Ok(Column { key, content })
@@ -208,12 +216,13 @@ fn content_of<S: Snapshot, L: Ledger>(
     kept: &Item,
     vars: &Vars,
     nodes: &[u64],
+    left: Left,
     reads: &mut Steps<L>,
 ) -> Result<Content, TreeFault>
-    ensures shows { IfOk result (λ content. ShowsBy (S.graph snap.now) vars.now.variables nodes.now content (trees_of (S.declared snap.now) (S.graph snap.now) vars.now.variables cascade item.now kept.now)) }
-    ensures held { IfOk result (λ content. held_by content ≤ bytes_of (trees_of (S.declared snap.now) (S.graph snap.now) vars.now.variables cascade item.now kept.now) nodes.now) }
+    ensures shows { IsLeft (S.declared snap.now) (S.graph snap.now) vars.now.variables item.now kept.now nodes.now left → IfOk result (λ content. ShowsBy (S.graph snap.now) vars.now.variables nodes.now content (trees_of (S.declared snap.now) (S.graph snap.now) vars.now.variables cascade item.now kept.now)) }
+    ensures held { IsLeft (S.declared snap.now) (S.graph snap.now) vars.now.variables item.now kept.now nodes.now left → IfOk result (λ content. held_by content ≤ bytes_of (trees_of (S.declared snap.now) (S.graph snap.now) vars.now.variables cascade item.now kept.now) nodes.now) }
     ensures within { IfOk result (λ content. room_of content ≤ limit) }
-    ensures too_large { IsErrOf result TreeFault.TooLarge → limit < bytes_of (trees_of (S.declared snap.now) (S.graph snap.now) vars.now.variables cascade item.now kept.now) nodes.now }
+    ensures too_large { IsLeft (S.declared snap.now) (S.graph snap.now) vars.now.variables item.now kept.now nodes.now left → IsErrOf result TreeFault.TooLarge → limit < bytes_of (trees_of (S.declared snap.now) (S.graph snap.now) vars.now.variables cascade item.now kept.now) nodes.now }
 {
     match item {
         QItem::Uid => Ok(Content::Uid),
@@ -238,6 +247,7 @@ fn content_of<S: Snapshot, L: Ledger>(
                 kept,
                 vars,
                 nodes,
+                left,
                 reads,
             ),
         },
@@ -257,12 +267,13 @@ fn edge_content<S: Snapshot, L: Ledger>(
     kept: &Item,
     vars: &Vars,
     nodes: &[u64],
+    left: Left,
     reads: &mut Steps<L>,
 ) -> Result<Content, TreeFault>
-    ensures shows { IfOk result (λ content. ShowsBy (S.graph snap.now) vars.now.variables nodes.now content (kept_trees (S.declared snap.now) (S.graph snap.now) vars.now.variables edge.now args.now braces.now cascade (out-Item kept.now))) }
-    ensures held { IfOk result (λ content. held_by content ≤ bytes_of (kept_trees (S.declared snap.now) (S.graph snap.now) vars.now.variables edge.now args.now braces.now cascade (out-Item kept.now)) nodes.now) }
+    ensures shows { IsLeftBy (S.declared snap.now) (S.graph snap.now) vars.now.variables edge.now args.now braces.now kept.now nodes.now left → IfOk result (λ content. ShowsBy (S.graph snap.now) vars.now.variables nodes.now content (kept_trees (S.declared snap.now) (S.graph snap.now) vars.now.variables edge.now args.now braces.now cascade (out-Item kept.now))) }
+    ensures held { IsLeftBy (S.declared snap.now) (S.graph snap.now) vars.now.variables edge.now args.now braces.now kept.now nodes.now left → IfOk result (λ content. held_by content ≤ bytes_of (kept_trees (S.declared snap.now) (S.graph snap.now) vars.now.variables edge.now args.now braces.now cascade (out-Item kept.now)) nodes.now) }
     ensures within { IfOk result (λ content. room_of content ≤ limit) }
-    ensures too_large { IsErrOf result TreeFault.TooLarge → limit < bytes_of (kept_trees (S.declared snap.now) (S.graph snap.now) vars.now.variables edge.now args.now braces.now cascade (out-Item kept.now)) nodes.now }
+    ensures too_large { IsLeftBy (S.declared snap.now) (S.graph snap.now) vars.now.variables edge.now args.now braces.now kept.now nodes.now left → IsErrOf result TreeFault.TooLarge → limit < bytes_of (kept_trees (S.declared snap.now) (S.graph snap.now) vars.now.variables edge.now args.now braces.now cascade (out-Item kept.now)) nodes.now }
 {
     let Item::Edge {
         orders,
@@ -291,6 +302,7 @@ fn edge_content<S: Snapshot, L: Ledger>(
         filters.as_slice(),
         vars,
         nodes,
+        left,
         reads,
     )?;
     if shows_none(&below) {
@@ -315,19 +327,23 @@ fn below_of<S: Snapshot, L: Ledger>(
     filters: &[Filter],
     vars: &Vars,
     nodes: &[u64],
+    left: Left,
     reads: &mut Steps<L>,
 ) -> Result<Below, TreeFault>
-    ensures shows { IfOk result (λ below. IsBelow nodes.now below (below_trees (S.declared snap.now) (S.graph snap.now) vars.now.variables edge.now args.now orders.now filters.now braces.now inner.now single cascade)) }
+    ensures shows { IsLeftUnder (S.declared snap.now) (S.graph snap.now) vars.now.variables edge.now args.now orders.now filters.now single braces.now inner.now nodes.now left → IfOk result (λ below. IsBelow nodes.now below (below_trees (S.declared snap.now) (S.graph snap.now) vars.now.variables edge.now args.now orders.now filters.now braces.now inner.now single cascade)) }
     ensures limit { IfOk result (λ below. below.rows.limit ≡ limit) }
     ensures begun { IfOk result (λ below. below.rows.begun ≡ []) }
-    ensures too_large { IsErrOf result TreeFault.TooLarge → limit < bytes_of (below_trees (S.declared snap.now) (S.graph snap.now) vars.now.variables edge.now args.now orders.now filters.now braces.now inner.now single cascade) nodes.now }
+    ensures too_large { IsLeftUnder (S.declared snap.now) (S.graph snap.now) vars.now.variables edge.now args.now orders.now filters.now single braces.now inner.now nodes.now left
+        → IsErrOf result TreeFault.TooLarge → limit < bytes_of (below_trees (S.declared snap.now) (S.graph snap.now) vars.now.variables edge.now args.now orders.now filters.now braces.now inner.now single cascade) nodes.now }
 {
     let counts = counts_of(alloc, braces)?;
     let lists = lists_of(
         alloc, snap, single, edge, args, orders, filters, vars, nodes, reads,
     )?;
-    let lists = left_lists(alloc, snap, cascade, braces, inner, lists, vars, reads)?;
-    let level = nodes_below(alloc, lists.as_slice())?;
+    let made = left_lists(
+        alloc, snap, cascade, braces, inner, lists, vars, left, reads,
+    )?;
+    let level = nodes_below(alloc, made.lists.as_slice())?;
     let rows = level_rows(
         alloc,
         snap,
@@ -337,12 +353,13 @@ fn below_of<S: Snapshot, L: Ledger>(
         inner,
         vars,
         level.as_slice(),
+        made.inside,
         reads,
     )?;
     Ok(Below {
         single,
         counts,
-        lists,
+        lists: made.lists,
         level,
         rows,
     })

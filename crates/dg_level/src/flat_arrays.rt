@@ -1,5 +1,5 @@
 // The array of a block whose nodes are shown as flat objects.
-ghost use Rattle.std.specs.Prelude.{◌≡◌, false, ◌<◌, ◌∷◌, [], List, length, map, IfOk, IsErrOf};
+ghost use Rattle.std.specs.Prelude.{◌≡◌, false, ◌<◌, ◌∷◌, [], List as Items, length, map, IfOk, IsErrOf};
 ghost use Rattle.dg_graph.specs.Graphs.{IsLawful};
 ghost use Rattle.dg_check.specs.Parts.{IsBlockOf};
 ghost use Rattle.dg_check.specs.Variables.{Definition};
@@ -22,7 +22,7 @@ use dg_graph::Snapshot;
 use dg_parse::QBlock;
 use dg_tree::TreeFault;
 use dg_uids::Uids;
-use dg_values::Steps;
+use dg_values::{List, Steps};
 use std::alloc::Global;
 use std::sync::ledger::Ledger;
 
@@ -38,9 +38,9 @@ fn block_flats<S: Snapshot, L: Ledger>(
     level: &Uids,
     reads: &mut Steps<L>,
 ) -> Result<Vec<Flats>, TreeFault>
-    ensures flats { (ds : List Definition) → IsLawful (S.declared snap.now) (S.graph snap.now) → AreOfKind ds vars.now.variables → IsBlockOf (S.declared snap.now) ds block.now kept.now
+    ensures flats { (ds : Items Definition) → IsLawful (S.declared snap.now) (S.graph snap.now) → AreOfKind ds vars.now.variables → IsBlockOf (S.declared snap.now) ds block.now kept.now
         → IfOk result (λ v. v.items ≡ map (objects_at (S.declared snap.now) (S.graph snap.now) ds vars.now.variables (cascades false block.now.dirs) block.now.fields) level.now) }
-    ensures too_large { (ds : List Definition) → IsLawful (S.declared snap.now) (S.graph snap.now) → AreOfKind ds vars.now.variables → IsBlockOf (S.declared snap.now) ds block.now kept.now
+    ensures too_large { (ds : Items Definition) → IsLawful (S.declared snap.now) (S.graph snap.now) → AreOfKind ds vars.now.variables → IsBlockOf (S.declared snap.now) ds block.now kept.now
         → IsErrOf result TreeFault.TooLarge → 16777216 < weight_of (objects_at (S.declared snap.now) (S.graph snap.now) ds vars.now.variables (cascades false block.now.dirs) block.now.fields) level.now }
 {
     meanings();
@@ -52,6 +52,7 @@ fn block_flats<S: Snapshot, L: Ledger>(
         kept.fields.as_slice(),
         vars,
         level.as_slice(),
+        List::new(alloc),
         reads,
     )
 }
@@ -71,9 +72,9 @@ pub fn flat_array<S: Snapshot, L: Ledger>(
     list: &[u64],
     reads: &mut Steps<L>,
 ) -> Result<Rows, TreeFault>
-    ensures ok { (ds : List Definition) → IsLawful (S.declared snap.now) (S.graph snap.now) → AreOfKind ds vars.now.variables → IsBlockOf (S.declared snap.now) ds block.now kept.now
+    ensures ok { (ds : Items Definition) → IsLawful (S.declared snap.now) (S.graph snap.now) → AreOfKind ds vars.now.variables → IsBlockOf (S.declared snap.now) ds block.now kept.now
         → IfOk result (λ rows. rows.rows ≡ tree_text (trees.Array (flat_shown (S.declared snap.now) (S.graph snap.now) ds vars.now.variables block.now list.now)) ∷ []) }
-    ensures too_large { (ds : List Definition) → IsLawful (S.declared snap.now) (S.graph snap.now) → AreOfKind ds vars.now.variables → IsBlockOf (S.declared snap.now) ds block.now kept.now
+    ensures too_large { (ds : Items Definition) → IsLawful (S.declared snap.now) (S.graph snap.now) → AreOfKind ds vars.now.variables → IsBlockOf (S.declared snap.now) ds block.now kept.now
         → IsErrOf result TreeFault.TooLarge → 16777216 < length (tree_text (trees.Array (flat_shown (S.declared snap.now) (S.graph snap.now) ds vars.now.variables block.now list.now))) }
 {
     let level = level_of(alloc, list)?;

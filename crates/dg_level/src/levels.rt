@@ -1,5 +1,5 @@
 // What the nodes of a level show, by the text of a query.
-ghost use Rattle.std.specs.Prelude.{◌≡◌, ◌<◌, List, map, IfOk, IsErrOf};
+ghost use Rattle.std.specs.Prelude.{◌≡◌, ◌<◌, List as Items, map, IfOk, IsErrOf};
 ghost use Rattle.dg_graph.specs.Graphs.{IsLawful};
 ghost use Rattle.dg_check.specs.Parts.{AreFieldsOf};
 ghost use Rattle.dg_check.specs.Variables.{Definition};
@@ -15,7 +15,7 @@ use dg_graph::Snapshot;
 use dg_parse::QField;
 use dg_tree::TreeFault;
 use dg_uids::Uids;
-use dg_values::Steps;
+use dg_values::{List, Steps};
 use std::alloc::Global;
 use std::sync::ledger::Ledger;
 
@@ -24,7 +24,7 @@ use std::sync::ledger::Ledger;
 /// It goes level by level: the lists of all nodes under an edge, the union of the lists as the level below, and the rows of
 /// that. The row of a node is made once in each level, whatever number of nodes lead to it, and so is each look-up for a node
 /// and a field. Where a cascade goes on from above, lists lose the nodes at which a field is missing; for that the lists of a level
-/// are read once more for each level above it.
+/// are read once more.
 ///
 /// # Errors
 ///
@@ -40,9 +40,9 @@ pub fn rows_of<S: Snapshot, L: Ledger>(
     nodes: &Uids,
     reads: &mut Steps<L>,
 ) -> Result<Rows, TreeFault>
-    ensures rows { (ds : List Definition) → IsLawful (S.declared snap.now) (S.graph snap.now) → AreOfKind ds vars.now.variables → AreFieldsOf (S.declared snap.now) ds fields.now kept.now
+    ensures rows { (ds : Items Definition) → IsLawful (S.declared snap.now) (S.graph snap.now) → AreOfKind ds vars.now.variables → AreFieldsOf (S.declared snap.now) ds fields.now kept.now
         → IfOk result (λ rows. rows.rows ≡ map (λ n. row_text (fields_at (S.declared snap.now) (S.graph snap.now) ds vars.now.variables cascade fields.now n)) nodes.now) }
-    ensures too_large { (ds : List Definition) → IsLawful (S.declared snap.now) (S.graph snap.now) → AreOfKind ds vars.now.variables → AreFieldsOf (S.declared snap.now) ds fields.now kept.now
+    ensures too_large { (ds : Items Definition) → IsLawful (S.declared snap.now) (S.graph snap.now) → AreOfKind ds vars.now.variables → AreFieldsOf (S.declared snap.now) ds fields.now kept.now
         → IsErrOf result TreeFault.TooLarge → limit < total (map (λ n. row_text (fields_at (S.declared snap.now) (S.graph snap.now) ds vars.now.variables cascade fields.now n)) nodes.now) }
 {
     meanings();
@@ -55,6 +55,7 @@ pub fn rows_of<S: Snapshot, L: Ledger>(
         kept,
         vars,
         nodes.as_slice(),
+        List::new(alloc),
         reads,
     )
 }

@@ -23,6 +23,7 @@ mod folds;
 mod given;
 mod keys;
 mod laws;
+mod left;
 mod levels;
 mod lists;
 mod looped;

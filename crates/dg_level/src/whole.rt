@@ -1,17 +1,22 @@
 // The nodes that a cascade leaves: those at which no field is missing.
-ghost use Rattle.std.specs.Prelude.{◌≡◌, ℕ, [], List as Items, map, filter, is_some, option_copied, IfOk};
+ghost use Rattle.std.specs.Prelude.{◌≡◌, ℕ, [], List as Items, Option, map, flat_map, filter, is_some, option_copied, IfOk};
 ghost use Rattle.std.specs.List.{list_any};
 ghost use Rattle.std.specs.Ordering.{nat_cmp};
 ghost use Rattle.dg_values.specs.Ascending.{ascending, has};
 ghost use Rattle.dg_graph.specs.Graphs.{objects};
+ghost use Rattle.dg_parse.specs.declared.query.QDir.{QDir};
+ghost use Rattle.dg_parse.specs.declared.query.QItem.TheVariants as items;
 ghost use Rattle.dg_check.specs.Vars.{value_at};
 ghost use Rattle.dg_check.specs.declared.parts.Item.TheViews.{out-Item};
 ghost use Rattle.dg_level.specs.Answers.{shown};
-ghost use Rattle.dg_level.specs.Shown.{remaining, some_trees};
+ghost use Rattle.dg_level.specs.declared.left.Left.TheVariants as lefts;
+ghost use Rattle.dg_level.specs.Left.{TellsIn, IsLeft, AreLeft, IsLeftIn};
+ghost use Rattle.dg_level.specs.Shown.{in_braces, remaining, some_trees};
 ghost use Rattle.dg_level.specs.Planned.{value_there, planned_there};
 ghost use Rattle.dg_level.specs.Levels.{planned_item, kept_there};
 
 use crate::answers::shown;
+use crate::left::Left;
 use crate::lists::{list_at, lists_of, nodes_below};
 use crate::sorts::{is_single, leads_to_nodes, sort_of};
 use dg_check::{Field, Item, Vars};
@@ -111,11 +116,39 @@ fn nodes_leading(alloc: Global, nodes: &Uids, lists: &[List<u64>], whole: &Uids)
     Ok(Uids::gathered(found))
 }
 
+/// The nodes that a cascade leaves, and what was learned about those below them.
+#[derive(Drop)]
+pub struct Whole {
+    /// The nodes.
+    pub nodes: Uids,
+    /// What is known for them under each field.
+    pub inside: List<Left>,
+}
+
+// Those that one field leaves.
+#[derive(Drop)]
+struct With {
+    // The nodes.
+    nodes: Uids,
+    // What is known for them under the field.
+    left: Left,
+}
+
+// Nodes under a field of which nothing is known.
+fn with_nodes(nodes: Uids) -> With
+    ensures { (result.nodes ≡ nodes) × (result.left ≡ lefts.Unknown) }
+{
+    With {
+        nodes,
+        left: Left::Unknown,
+    }
+}
+
 /// The nodes of a set at which none of the fields is missing. A value is missing where the node has none, an edge where it has
 /// neither a value nor a node that is whole itself; nothing else is ever missing.
 ///
-/// It goes level by level: what one field leaves is asked for the next, and each node of a level below is asked once. The
-/// error is want of memory.
+/// It goes level by level: what one field leaves is asked for the next, and each node of a level below is asked once. What it
+/// finds out about the levels below is answered with the nodes. The error is want of memory.
 #[cycle(whole)]
 pub fn whole_nodes<S: Snapshot, L: Ledger>(
     alloc: Global,
@@ -125,18 +158,28 @@ pub fn whole_nodes<S: Snapshot, L: Ledger>(
     vars: &Vars,
     nodes: Uids,
     reads: &mut Steps<L>,
-) -> Mem<Uids>
-    ensures { IfOk result (λ uids. uids ≡ filter (planned_there (S.declared snap.now) (S.graph snap.now) vars.now.variables fields.now kept.now) nodes) }
+) -> Mem<Whole>
+    ensures nodes { IfOk result (λ whole. whole.nodes ≡ filter (planned_there (S.declared snap.now) (S.graph snap.now) vars.now.variables fields.now kept.now) nodes) }
+    ensures inside { IfOk result (λ whole. AreLeft (S.declared snap.now) (S.graph snap.now) vars.now.variables fields.now kept.now whole.nodes whole.inside) }
 {
     let mut left = nodes;
+    let mut inside = List::new(alloc);
     for (place, field) in fields.iter().enumerate() {
         if place >= kept.len() {
-            return Ok(left);
+            return Ok(Whole {
+                nodes: left,
+                inside,
+            });
         }
         let part = &kept[place];
-        left = nodes_with(alloc, snap, &field.item, &part.item, vars, left, reads)?;
+        let with = nodes_with(alloc, snap, &field.item, &part.item, vars, left, reads)?;
+        left = with.nodes;
+        inside.push(with.left)?;
     }
-    Ok(left)
+    Ok(Whole {
+        nodes: left,
+        inside,
+    })
 }
 
 // Those at which an item isn't missing.
@@ -149,12 +192,13 @@ fn nodes_with<S: Snapshot, L: Ledger>(
     vars: &Vars,
     nodes: Uids,
     reads: &mut Steps<L>,
-) -> Mem<Uids>
-    ensures { IfOk result (λ uids. uids ≡ filter ((planned_item (S.declared snap.now) (S.graph snap.now) vars.now.variables item.now).there kept.now) nodes) }
+) -> Mem<With>
+    ensures nodes { IfOk result (λ with. with.nodes ≡ filter ((planned_item (S.declared snap.now) (S.graph snap.now) vars.now.variables item.now).there kept.now) nodes) }
+    ensures left { IfOk result (λ with. IsLeft (S.declared snap.now) (S.graph snap.now) vars.now.variables item.now kept.now nodes with.left) }
 {
     match item {
-        QItem::Uid | QItem::CountUid | QItem::Count(_) | QItem::Agg { .. } => Ok(nodes),
-        QItem::Val(_) => nodes_with_value(alloc, kept, vars, &nodes),
+        QItem::Uid | QItem::CountUid | QItem::Count(_) | QItem::Agg { .. } => Ok(with_nodes(nodes)),
+        QItem::Val(_) => Ok(with_nodes(nodes_with_value(alloc, kept, vars, &nodes)?)),
         QItem::Edge {
             edge,
             args,
@@ -199,8 +243,9 @@ fn nodes_with_edge<S: Snapshot, L: Ledger>(
     vars: &Vars,
     nodes: &Uids,
     reads: &mut Steps<L>,
-) -> Mem<Uids>
-    ensures { IfOk result (λ uids. uids ≡ filter (kept_there (S.declared snap.now) (S.graph snap.now) vars.now.variables edge.now args.now braces.now (out-Item kept.now)) nodes.now) }
+) -> Mem<With>
+    ensures nodes { IfOk result (λ with. with.nodes ≡ filter (kept_there (S.declared snap.now) (S.graph snap.now) vars.now.variables edge.now args.now braces.now (out-Item kept.now)) nodes.now) }
+    ensures left { (dirs : Items QDir) (fields : Option (Items QField)) → in_braces fields ≡ braces.now → IfOk result (λ with. IsLeft (S.declared snap.now) (S.graph snap.now) vars.now.variables (items.Edge edge.now args.now dirs fields) kept.now nodes.now with.left) }
 {
     let Item::Edge {
         orders,
@@ -208,12 +253,13 @@ fn nodes_with_edge<S: Snapshot, L: Ledger>(
         fields: inner,
     } = kept
     else {
-        return Ok(no_nodes(alloc));
+        return Ok(with_nodes(no_nodes(alloc)));
     };
     let definition = snap.schema().lookup(edge.pred.as_str());
     let sort = sort_of(definition, edge.back);
     if !leads_to_nodes(sort) {
-        return nodes_with_values(alloc, snap, definition, edge.pred.as_str(), nodes, reads);
+        let valued = nodes_with_values(alloc, snap, definition, edge.pred.as_str(), nodes, reads)?;
+        return Ok(with_nodes(valued));
     }
     let lists = lists_of(
         alloc,
@@ -228,8 +274,15 @@ fn nodes_with_edge<S: Snapshot, L: Ledger>(
         reads,
     )?;
     let level = nodes_below(alloc, lists.as_slice())?;
-    let whole = whole_nodes(alloc, snap, braces, inner.as_slice(), vars, level, reads)?;
-    nodes_leading(alloc, nodes, lists.as_slice(), &whole)
+    let below = whole_nodes(alloc, snap, braces, inner.as_slice(), vars, level, reads)?;
+    let leading = nodes_leading(alloc, nodes, lists.as_slice(), &below.nodes)?;
+    Ok(With {
+        nodes: leading,
+        left: Left::Nodes {
+            whole: below.nodes,
+            inside: below.inside,
+        },
+    })
 }
 
 /// The nodes of a list, as a set. The error is want of memory.
@@ -283,10 +336,46 @@ pub fn left_list<S: Snapshot, L: Ledger>(
     }
     let level = level_of(alloc, list.as_slice())?;
     let whole = whole_nodes(alloc, snap, braces, inner, vars, level, reads)?;
-    nodes_in(alloc, list.as_slice(), &whole)
+    nodes_in(alloc, list.as_slice(), &whole.nodes)
 }
 
-/// The same of the lists of the nodes of a level. Each node of the level below is asked once. The error is want of memory.
+/// Lists of the nodes of a level, without the nodes that a cascade drops, and what is known about those that are left.
+#[derive(Drop)]
+pub struct LeftLists {
+    /// The lists.
+    pub lists: Vec<List<u64>>,
+    /// What is known for their nodes under each field.
+    pub inside: List<Left>,
+}
+
+// Which nodes of lists are whole, as it is known, or else by asking each node once.
+fn whole_below<S: Snapshot, L: Ledger>(
+    alloc: Global,
+    snap: &S,
+    braces: &[QField],
+    inner: &[Field],
+    lists: &[List<u64>],
+    vars: &Vars,
+    left: Left,
+    reads: &mut Steps<L>,
+) -> Mem<Whole>
+    ensures whole { IsLeftIn (S.declared snap.now) (S.graph snap.now) vars.now.variables braces.now inner.now lists.now left → IfOk result (λ whole. TellsIn (planned_there (S.declared snap.now) (S.graph snap.now) vars.now.variables braces.now inner.now) lists.now whole.nodes) }
+    ensures inside { IsLeftIn (S.declared snap.now) (S.graph snap.now) vars.now.variables braces.now inner.now lists.now left → IfOk result (λ whole. AreLeft (S.declared snap.now) (S.graph snap.now) vars.now.variables braces.now inner.now whole.nodes whole.inside) }
+{
+    match left {
+        Left::Nodes { whole, inside } => Ok(Whole {
+            nodes: whole,
+            inside,
+        }),
+        Left::Unknown => {
+            let level = nodes_below(alloc, lists)?;
+            whole_nodes(alloc, snap, braces, inner, vars, level, reads)
+        }
+    }
+}
+
+/// The nodes of the lists of a level that remain: where a cascade drops nodes, those at which none of the fields is missing. What
+/// is known of them isn't asked again; else each node of the level below is asked once. The error is want of memory.
 pub fn left_lists<S: Snapshot, L: Ledger>(
     alloc: Global,
     snap: &S,
@@ -295,14 +384,31 @@ pub fn left_lists<S: Snapshot, L: Ledger>(
     inner: &[Field],
     lists: Vec<List<u64>>,
     vars: &Vars,
+    left: Left,
     reads: &mut Steps<L>,
-) -> Mem<Vec<List<u64>>>
-    ensures { IfOk result (λ made. made.items ≡ map (remaining cascade (planned_there (S.declared snap.now) (S.graph snap.now) vars.now.variables braces.now inner.now)) lists.items) }
+) -> Mem<LeftLists>
+    ensures lists { IsLeftIn (S.declared snap.now) (S.graph snap.now) vars.now.variables braces.now inner.now lists.items left → IfOk result (λ made. made.lists.items ≡ map (remaining cascade (planned_there (S.declared snap.now) (S.graph snap.now) vars.now.variables braces.now inner.now)) lists.items) }
+    ensures inside { IsLeftIn (S.declared snap.now) (S.graph snap.now) vars.now.variables braces.now inner.now lists.items left → IfOk result (λ made. AreLeft (S.declared snap.now) (S.graph snap.now) vars.now.variables braces.now inner.now (ascending nat_cmp (flat_map (λ list. list) made.lists.items)) made.inside) }
 {
     if !cascade {
-        return Ok(lists);
+        return Ok(LeftLists {
+            lists,
+            inside: List::new(alloc),
+        });
     }
-    let level = nodes_below(alloc, lists.as_slice())?;
-    let whole = whole_nodes(alloc, snap, braces, inner, vars, level, reads)?;
-    lists_in(alloc, lists.as_slice(), &whole)
+    let whole = whole_below(
+        alloc,
+        snap,
+        braces,
+        inner,
+        lists.as_slice(),
+        vars,
+        left,
+        reads,
+    )?;
+    let lists = lists_in(alloc, lists.as_slice(), &whole.nodes)?;
+    Ok(LeftLists {
+        lists,
+        inside: whole.inside,
+    })
 }

@@ -1,9 +1,12 @@
-use Rattle.std.proofs.Common.{◌≡◌, ◌<◌, ℕ, false, List, map, ap, ◌∙◌, subst}
+use Rattle.std.proofs.Common.{◌≡◌, ◌<◌, ℕ, false, List, map, sym, ap, ◌∙◌, subst}
 use Rattle.std.specs.Prelude.{IfOk}
 use Rattle.dg_tree.specs.declared.tree.Field.{Field}
+use Rattle.dg_level.specs.declared.left.Left.{Left}
+use Rattle.dg_level.specs.Left.{AreLeft}
 use Rattle.dg_level.specs.Shown.{cascades, objects_at}
 use Rattle.dg_level.specs.Planned.{planned_flats}
 use Rattle.dg_level.specs.FlatLevels.{weight_of}
+use Rattle.dg_level.proofs.LeftLaws.{none_known}
 use Rattle.dg_level.proofs.MeaningLaws.{planned_flats_mean}
 use Rattle.dg_level.proofs.flat_arrays.block_flats.Goals as goal
 
@@ -19,7 +22,9 @@ returns-clause-flats g c = λ ds lawful kinds is.
     λ i. map (planned_flats schema graph vars (flag i) (c.as_slice-2.ensures i) (c.as_slice-3.ensures i)) (c.as_slice-4.ensures.items i) in
     let mean : map (planned_flats schema graph vars cascade block.fields c.args.kept.now.fields) c.args.level.now ≡ map (objects_at schema graph ds vars cascade block.fields) c.args.level.now =
     λ i. map (λ n. planned_flats_mean schema ds graph vars lawful kinds c.meanings.ensures.filters cascade block.fields c.args.kept.now.fields is.fields n i) c.args.level.now in
-    subst (λ (all : List (List (List Field))). IfOk c.level_flats.result (λ v. v.items ≡ all)) (read ∙ mean) c.level_flats.ensures.flats
+    let none : AreLeft schema graph vars c.as_slice-2.result.now c.as_slice-3.result.now c.as_slice-4.result.now c.new.result =
+    subst (λ (ls : List Left). AreLeft schema graph vars c.as_slice-2.result.now c.as_slice-3.result.now c.as_slice-4.result.now ls) (sym c.new.ensures) (none_known schema graph vars c.as_slice-2.result.now c.as_slice-3.result.now c.as_slice-4.result.now) in
+    subst (λ (all : List (List (List Field))). IfOk c.level_flats.result (λ v. v.items ≡ all)) (read ∙ mean) (c.level_flats.ensures.flats none)
 
 pub returns-clause-too_large : goal.returns-clause-too_large
 returns-clause-too_large g c = λ ds lawful kinds is over.
@@ -33,4 +38,6 @@ returns-clause-too_large g c = λ ds lawful kinds is over.
     λ i. weight_of (planned_flats schema graph vars (flag i) (c.as_slice-2.ensures i) (c.as_slice-3.ensures i)) (c.as_slice-4.ensures.items i) in
     let mean : weight_of (planned_flats schema graph vars cascade block.fields c.args.kept.now.fields) c.args.level.now ≡ weight_of (objects_at schema graph ds vars cascade block.fields) c.args.level.now =
     λ i. weight_of (λ n. planned_flats_mean schema ds graph vars lawful kinds c.meanings.ensures.filters cascade block.fields c.args.kept.now.fields is.fields n i) c.args.level.now in
-    subst (λ (t : ℕ). 16777216 < t) (read ∙ mean) (c.level_flats.ensures.too_large over)
+    let none : AreLeft schema graph vars c.as_slice-2.result.now c.as_slice-3.result.now c.as_slice-4.result.now c.new.result =
+    subst (λ (ls : List Left). AreLeft schema graph vars c.as_slice-2.result.now c.as_slice-3.result.now c.as_slice-4.result.now ls) (sym c.new.ensures) (none_known schema graph vars c.as_slice-2.result.now c.as_slice-3.result.now c.as_slice-4.result.now) in
+    subst (λ (t : ℕ). 16777216 < t) (read ∙ mean) (c.level_flats.ensures.too_large none over)

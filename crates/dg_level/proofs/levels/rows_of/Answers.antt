@@ -1,8 +1,11 @@
-use Rattle.std.proofs.Common.{◌≡◌, ◌<◌, ℕ, List, map, subst}
+use Rattle.std.proofs.Common.{◌≡◌, ◌<◌, ℕ, List, map, sym, subst}
 use Rattle.std.specs.Prelude.{IfOk}
+use Rattle.dg_level.specs.declared.left.Left.{Left}
+use Rattle.dg_level.specs.Left.{AreLeft}
 use Rattle.dg_level.specs.Rows.{total, row_text}
 use Rattle.dg_level.specs.Shown.{fields_at}
 use Rattle.dg_level.specs.Planned.{planned_at}
+use Rattle.dg_level.proofs.LeftLaws.{none_known}
 use Rattle.dg_level.proofs.MeaningLaws.{planned_means}
 use Rattle.dg_level.proofs.levels.rows_of.Goals as goal
 
@@ -15,7 +18,9 @@ returns-clause-rows g c = λ ds lawful of_kind are.
     let kept = c.args.kept.now in
     let e : map (λ n. row_text (planned_at schema graph vars c.args.cascade fields kept n)) c.as_slice.result.now ≡ map (λ n. row_text (fields_at schema graph ds vars c.args.cascade fields n)) c.args.nodes.now =
     λ i. map (λ n. row_text (planned_means schema ds graph vars lawful of_kind c.meanings.ensures.filters c.args.cascade fields kept are n i)) (c.as_slice.ensures.items i) in
-    subst (λ (xs : List (List ℕ)). IfOk c.level_rows.result (λ rows. rows.rows ≡ xs)) e c.level_rows.ensures.rows
+    let none : AreLeft schema graph vars fields kept c.as_slice.result.now c.new.result =
+    subst (λ (ls : List Left). AreLeft schema graph vars fields kept c.as_slice.result.now ls) (sym c.new.ensures) (none_known schema graph vars fields kept c.as_slice.result.now) in
+    subst (λ (xs : List (List ℕ)). IfOk c.level_rows.result (λ rows. rows.rows ≡ xs)) e (c.level_rows.ensures.rows none)
 
 pub returns-clause-too_large : goal.returns-clause-too_large
 returns-clause-too_large g c = λ ds lawful of_kind are err.
@@ -26,4 +31,6 @@ returns-clause-too_large g c = λ ds lawful of_kind are err.
     let kept = c.args.kept.now in
     let e : map (λ n. row_text (planned_at schema graph vars c.args.cascade fields kept n)) c.as_slice.result.now ≡ map (λ n. row_text (fields_at schema graph ds vars c.args.cascade fields n)) c.args.nodes.now =
     λ i. map (λ n. row_text (planned_means schema ds graph vars lawful of_kind c.meanings.ensures.filters c.args.cascade fields kept are n i)) (c.as_slice.ensures.items i) in
-    subst (λ (xs : List (List ℕ)). c.args.limit < total xs) e (c.level_rows.ensures.too_large err)
+    let none : AreLeft schema graph vars fields kept c.as_slice.result.now c.new.result =
+    subst (λ (ls : List Left). AreLeft schema graph vars fields kept c.as_slice.result.now ls) (sym c.new.ensures) (none_known schema graph vars fields kept c.as_slice.result.now) in
+    subst (λ (xs : List (List ℕ)). c.args.limit < total xs) e (c.level_rows.ensures.too_large none err)

@@ -16,6 +16,6 @@ returns g c =
     let list = c.args.list.items in
     let yes : true ≡ c.args.cascade = search rules in
     let level : c.in_ok-level.level ≡ ascending nat_cmp list = c.in_ok-level.ensures ∙ ap (ascending nat_cmp) c.as_slice.ensures.value in
-    let e : filter (has nat_cmp c.in_ok-whole.whole) c.as_slice-2.result.now ≡ remaining c.args.cascade p list =
-    ap (filter (has nat_cmp c.in_ok-whole.whole)) c.as_slice-2.ensures.value ∙ (list_left p c.in_ok-level.level c.in_ok-whole.whole c.in_ok-whole.ensures list level ∙ (λ i. remaining (yes i) p list)) in
+    let e : filter (has nat_cmp c.in_ok-whole.whole.nodes) c.as_slice-2.result.now ≡ remaining c.args.cascade p list =
+    ap (filter (has nat_cmp c.in_ok-whole.whole.nodes)) c.as_slice-2.ensures.value ∙ (list_left p c.in_ok-level.level c.in_ok-whole.whole.nodes c.in_ok-whole.ensures.nodes list level ∙ (λ i. remaining (yes i) p list)) in
     subst (λ (xs : List ℕ). IfOk c.nodes_in.result (λ left. left.items ≡ xs)) e c.nodes_in.ensures
