@@ -133,6 +133,7 @@ TWO = "friend (first: 2)"
 EACH = "{ q(func: has(friend))"
 SHARE = "parents that share as many children:"
 ALL = "where all lead to all, depth 10:"
+FAR = "where all lead to all, depth 29:"
 QUERIES = [
     Nested("three hops from a node, of 2 to 14 friends each", NAMES, friends, deep("name", 3)),
     Nested("three hops with a cascade", NAMES, friends, deep("name friend", 3, directives="@cascade")),
@@ -147,6 +148,8 @@ QUERIES = [
     Nested(f"{ALL} a cascade that leaves nothing", NAMES, all_to_all, deep("name", directives="@cascade"), CLIQUES),
     Nested(f"{ALL} a cascade, too large", NAMES, all_to_all, deep("uid", directives="@cascade"), CLIQUES),
     Nested(f"{ALL} a cascade, pages of two", NAMES, all_to_all, deep("uid", edge=TWO, directives="@cascade"), CLIQUES),
+    Nested(f"{FAR} too large", NAMES, all_to_all, deep("uid", 29), CLIQUES),
+    Nested(f"{FAR} a cascade, too large", NAMES, all_to_all, deep("uid", 29, directives="@cascade"), CLIQUES),
     Nested(f"{ALL} flat objects, none", NAMES, all_to_all, deep("n: name", directives="@normalize"), CLIQUES),
     Nested(f"{ALL} flat objects, too large", NAMES, all_to_all, deep("u: uid", directives="@normalize"), CLIQUES),
     Nested(f"{ALL} flat objects, pages of two", NAMES, all_to_all, deep("u: uid", edge=TWO, directives="@normalize"), CLIQUES),
