@@ -27,14 +27,14 @@ module _ {K : Type 0} {R : K → K → Ordering} (o : IsTotalOrder R) where
       (λ p. let z = turned_back R o k x (o.congr k y x (tied_back o y k p) ∙ turned R o x y l) in ap is_le z)
       (λ p. let bad : false ≡ true = rw p at u in cc)
 
-  not_above : (q k : K) → is_le (R q k) ≡ true → is_lt (R k q) ≡ false
+  pub not_above : (q k : K) → is_le (R q k) ≡ true → is_lt (R k q) ≡ false
   not_above q k u =
       by_order (R q k)
       (λ p. ap is_lt (turned R o q k p))
       (λ p. ap is_lt (tied_back o q k p))
       (λ p. let bad : false ≡ true = rw p at u in cc)
 
-  is_above : (q k : K) → is_le (R q k) ≡ false → is_lt (R k q) ≡ true
+  pub is_above : (q k : K) → is_le (R q k) ≡ false → is_lt (R k q) ≡ true
   is_above q k n =
       by_order (R q k)
       (λ p. let bad : true ≡ false = rw p at n in cc)
@@ -54,7 +54,7 @@ module _ {K V : Type 0} {R : K → K → Ordering} (o : IsTotalOrder R) where
   upto_parted (p ∷ ps) k s (suc i) zero d le lt e = absurd (omega arith)
   upto_parted (p ∷ ps) k s (suc i) (suc j) d le lt e = upto_parted ps k s.1 i j d (omega arith) (omega arith) e
 
-  abbrev Parts : List (Arc K Global × Arc V Global) → K → ℕ → Type 0
+  abbrev pub Parts : List (Arc K Global × Arc V Global) → K → ℕ → Type 0
   Parts ps k i = IsPartitionPoint (λ p. is_le (R (arc_value p.0) k) ≡ true) (λ p. is_le (R (arc_value p.0) k) ≡ false) ps i
 
   skip_upto : (p : Arc K Global × Arc V Global) (ps : List (Arc K Global × Arc V Global)) (k : K) → is_le (R (arc_value p.0) k) ≡ true → entry_above R k (entries_of (p ∷ ps)) ≡ entry_above R k (entries_of ps)

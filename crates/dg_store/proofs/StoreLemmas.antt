@@ -6,7 +6,7 @@ use Rattle.std.specs.declared.alloc.Global.{Global}
 use Rattle.std.specs.List.{AllByRecursion}
 use Rattle.std.specs.declared.cmp.Ordering.{Ordering}
 use Rattle.std.specs.declared.cmp.Ordering.TheVariants.{Less, Equal, Greater}
-use Rattle.std.specs.Ordering.{is_eq, match_ordering, on}
+use Rattle.std.specs.Ordering.{is_eq, is_le, match_ordering, ordering_reverse, on}
 use Rattle.dg_values.specs.Ascending.{Ascends}
 use Rattle.dg_values.specs.declared.value.Posting.{Posting}
 use Rattle.dg_sets.proofs.Sets.{all_passed, back}
@@ -14,7 +14,7 @@ use Rattle.dg_keys.specs.Keys.{key_cmp, part_cmp}
 use Rattle.dg_keys.specs.KeyOrder.{key_order}
 use Rattle.dg_keys.specs.declared.key.Key.{Key}
 use Rattle.dg_keys.specs.declared.record.Part.{Part}
-use Rattle.dg_pages.specs.Entries.{with_entry, changed_all}
+use Rattle.dg_pages.specs.Entries.{IsMap, with_entry, entry_from, changed_all}
 use Rattle.dg_list.specs.Lists.{Layered, with_layer, with_base}
 use Rattle.dg_store.specs.Stores.{Lists, list_under, list_at, no_list, is_held, held_parts, with_part, after_parts, base_of, bases_of, after_bases}
 
@@ -105,3 +105,23 @@ pub base_at : (P : Key × List Posting → Type 0) (bs : List (Arc Key Global ×
 base_at P [] i b lt e a = absurd (omega arith)
 base_at P (x ∷ bs) zero b lt e a = subst (λ y. P (base_of y)) (sym e) a.0
 base_at P (x ∷ bs) (suc i) b lt e a = base_at P bs i b (omega arith) e a.1
+
+-- ---- a key is looked for by the least at or above it
+
+-- the list of the entry that is found, where it is the key's own
+abbrev pub own_list : Key → Option (Key × Layered) → Option Layered
+own_list key None = None
+own_list key (Some e) = cond (is_eq (key_cmp e.0 key)) (Some e.1) None
+
+none_behind : (key : Key) (x : Key × Layered) (es : Lists) → key_cmp key x.0 ≡ Less → AllByRecursion (λ e. key_cmp x.0 e.0 ≡ Less) es → list_under key es ≡ None
+none_behind key x [] p a = refl
+none_behind key x (e ∷ es) p a = ap (λ t. cond (is_eq t) (Some e.1) (list_under key es)) (key_order.trans key x.0 e.0 p a.0) ∙ none_behind key x es p a.1
+
+pub found_is : (key : Key) (es : Lists) → IsMap key_cmp es → own_list key (entry_from key_cmp key es) ≡ list_under key es
+found_is key [] a = refl
+found_is key (x ∷ es) a = by (key_cmp key x.0) refl (found_is key es a.1)
+  where
+    by : (v : Ordering) → key_cmp key x.0 ≡ v → own_list key (entry_from key_cmp key es) ≡ list_under key es → own_list key (cond (is_le v) (Some x) (entry_from key_cmp key es)) ≡ cond (is_eq v) (Some x.1) (list_under key es)
+    by Less p rest = ap (λ t. cond (is_eq t) (Some x.1) None) (back key_cmp key_order key x.0 p) ∙ sym (none_behind key x es p a.0)
+    by Equal p rest = ap (λ t. cond (is_eq t) (Some x.1) None) (key_order.antisymm x.0 key ∙ ap ordering_reverse p)
+    by Greater p rest = rest

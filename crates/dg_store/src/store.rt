@@ -8,7 +8,7 @@ ghost use Rattle.dg_values.specs.Ascending.{Ascends};
 ghost use Rattle.dg_delta.specs.Ops.{op_cmp};
 ghost use Rattle.dg_keys.specs.Keys.{key_cmp, part_cmp};
 ghost use Rattle.dg_list.specs.Lists.{newest_ts, reading, with_base};
-ghost use Rattle.dg_pages.specs.Entries.{IsMap, with_entry, entry_from, entry_above, change_of};
+ghost use Rattle.dg_pages.specs.Entries.{IsMap, with_entry, entry_from, entry_above, entries_above, entries_of, change_of, AreFirst};
 ghost use Rattle.dg_store.specs.Stores.{list_under, list_at, held_parts, with_part, after_part, after_parts, bases_of, after_bases};
 
 use crate::parts::{is_among, layer_of};
@@ -80,6 +80,15 @@ impl Store {
         self.lists.next_above(after)
     }
 
+    /// The first keys above this one, as many as stand together, with their lists. There is none exactly where no key is above
+    /// it. It takes no memory.
+    pub fn run_above(&self, after: &Key) -> &[(Arc<Key>, Arc<PList>)]
+        ensures run { AreFirst (entries_of result.now) (entries_above key_cmp after.now self.now) }
+        ensures ascend { IsMap key_cmp self.now }
+    {
+        self.lists.run_above(after)
+    }
+
     /// The store with one more layer for each part of a record whose predicate is among those held. The error is want of
     /// memory.
     pub fn with_record(&self, alloc: Global, rec: &Record, held: &[Str]) -> Mem<Store>
@@ -123,8 +132,7 @@ impl Store {
         ensures ok { OnOk result (self.new ≡ after_part ts self.old part.now) }
         ensures err { OnErr result (self.new ≡ self.old) }
     {
-        let list = self.longer(alloc, ts, part)?;
-        let key = self.shared_key(alloc, &part.key)?;
+        let (key, list) = self.longer(alloc, ts, part)?;
         self.lists.put(alloc, key, list)
     }
 
@@ -171,22 +179,31 @@ impl Store {
         requires newer { newest_ts (list_at part.now.key self.now) < ts }
         ensures { IfOk result (λ change. change_of change ≡ (part.now.key, Some (with_part ts self.now part.now))) }
     {
-        let list = self.longer(alloc, ts, part)?;
-        Ok((self.shared_key(alloc, &part.key)?, Some(list)))
+        let (key, list) = self.longer(alloc, ts, part)?;
+        Ok((key, Some(list)))
     }
 
-    // That list.
-    fn longer(&self, alloc: Global, ts: u64, part: &Part) -> Mem<Arc<PList>>
+    // That list, with its key, which is copied only where the store hasn't got it. It looks once.
+    fn longer(&self, alloc: Global, ts: u64, part: &Part) -> Mem<(Arc<Key>, Arc<PList>)>
         requires ops { Ascends op_cmp part.now.ops }
         requires newer { newest_ts (list_at part.now.key self.now) < ts }
-        ensures { IfOk result (λ list. arc_value list ≡ with_part ts self.now part.now) }
+        ensures key { IfOk result (λ longer. arc_value longer.0 ≡ part.now.key) }
+        ensures list { IfOk result (λ longer. arc_value longer.1 ≡ with_part ts self.now part.now) }
     {
         let layer = layer_of(alloc, ts, part)?;
-        let list = match self.get(&part.key) {
-            Some(list) => list.with_layer(alloc, layer)?,
-            None => PList::empty(alloc)?.with_layer(alloc, layer)?,
-        };
-        Ok(Arc::new(alloc, list)?)
+        match self.found(&part.key) {
+            Some((key, list)) => {
+                let list = list.with_layer(alloc, layer)?;
+                Ok((Arc::try_clone(key)?, Arc::new(alloc, list)?))
+            }
+            None => {
+                let list = PList::empty(alloc)?.with_layer(alloc, layer)?;
+                Ok((
+                    Arc::new(alloc, part.key.copy(alloc)?)?,
+                    Arc::new(alloc, list)?,
+                ))
+            }
+        }
     }
 
     // The list of a key over another base.
@@ -241,11 +258,24 @@ impl Store {
     fn there(&self, key: &Key) -> Option<&Arc<Key>>
         ensures { IfSome result (λ there. arc_value there.now ≡ key.now) }
     {
-        let (there, _) = self.lists.next_from(key)?;
-        if there.compare(key).is_eq() {
-            Some(there)
-        } else {
-            None
+        let (there, _) = self.found(key)?;
+        Some(there)
+    }
+
+    // The key as the store has it, with its list.
+    fn found(&self, key: &Key) -> Option<(&Arc<Key>, &Arc<PList>)>
+        ensures key { IfSome result (λ found. arc_value found.0.now ≡ key.now) }
+        ensures list { option_map (λ found. arc_value found.1.now) result ≡ list_under key.now self.now }
+    {
+        match self.lists.next_from(key) {
+            Some((there, list)) => {
+                if there.compare(key).is_eq() {
+                    Some((there, list))
+                } else {
+                    None
+                }
+            }
+            None => None,
         }
     }
 }

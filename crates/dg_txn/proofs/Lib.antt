@@ -10,4 +10,5 @@ pub mod SpanLaws
 pub mod Walking
 pub mod FoundNodes
 pub mod StandingKeys
+pub mod StoredWalk
 pub mod LookedUp

@@ -99,7 +99,7 @@ abbrev pub IsBased : ℕ → Option Layered → Type 0
 IsBased at None = Unit {0}
 IsBased at (Some list) = list.base_ts ≤ at
 
-based_in : (at : ℕ) (key : Key) (store : Lists) → AllByRecursion (λ (e : Key × Layered). e.1.base_ts ≤ at) store → IsBased at (list_under key store)
+pub based_in : (at : ℕ) (key : Key) (store : Lists) → AllByRecursion (λ (e : Key × Layered). e.1.base_ts ≤ at) store → IsBased at (list_under key store)
 based_in at key [] a = tt
 based_in at key (e ∷ es) a = by (is_eq (key_cmp key e.0)) (based_in at key es a.1)
   where

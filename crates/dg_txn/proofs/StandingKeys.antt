@@ -1,15 +1,16 @@
 -- Which keys stand in a store and among parts, and that what stands in neither lists nothing.
 use Rattle.std.proofs.Common.{◌≡◌, ◌∙◌, sym, ap, subst, refl, ℕ, Bool, true, false, cond, List, [], ◌∷◌, Option, Some, None, map}
-use Rattle.std.specs.Prelude.{◌||◌, find, filter, flat_map, unwrap_or}
+use Rattle.std.specs.Prelude.{◌||◌, find, filter, flat_map, unwrap_or, is_some, IfSome, IsSomeAnd}
 use Rattle.std.specs.List.{AllByRecursion}
 use Rattle.std.specs.Map.{lookup}
-use Rattle.std.specs.Option.{option_map}
+use Rattle.std.specs.Option.{option_map, option_and_then}
 use Rattle.std.specs.declared.cmp.Ordering.TheVariants.{Less}
 use Rattle.std.specs.Ordering.{eq_by_cmp, is_eq}
 use Rattle.dg_values.specs.Ascending.{Ascends, has}
-use Rattle.dg_sets.proofs.Sets.{eq_turn, has_joined}
+use Rattle.dg_sets.proofs.Sets.{eq_turn}
 use Rattle.dg_delta.specs.declared.op.Op.{Op}
-use Rattle.dg_delta.specs.Ops.{after_ops}
+use Rattle.dg_values.specs.Order.{same_text}
+use Rattle.dg_schema.proofs.Names.{same_text-equal, same_text-itself}
 use Rattle.dg_schema.specs.declared.definition.PredDef.{PredDef}
 use Rattle.dg_graph.specs.declared.change.Triple.{Triple}
 use Rattle.dg_keys.specs.declared.key.Key.{Key}
@@ -21,15 +22,13 @@ use Rattle.dg_list.specs.Lists.{Layered, reading}
 use Rattle.dg_pages.specs.Entries.{IsMap}
 use Rattle.dg_store.specs.Stores.{Lists, list_at, no_list}
 use Rattle.dg_zero.specs.Listings.{listing}
+use Rattle.dg_group.proofs.Between.{found_at, found_is}
 use Rattle.dg_group.specs.declared.copied.Copied.{Copied}
 use Rattle.dg_group.specs.Groups.{Group}
 use Rattle.dg_txn.specs.Gains.{parts_from}
-use Rattle.dg_txn.specs.Own.{seen}
-use Rattle.dg_txn.specs.Pins.{copy_for, read_in, ArePinsOf}
-use Rattle.dg_txn.specs.declared.span.Span.{Span}
-use Rattle.dg_txn.specs.Walks.{stored_keys, part_keys, keys_of, IsLeast, NoneElse, HoldsAll}
+use Rattle.dg_txn.specs.Pins.{copy_for, read_in, tablet_of, pinned_copy, IsCopyOf, ArePinsOf}
+use Rattle.dg_txn.specs.Walks.{stored_keys, part_keys, is_changed, IsLeast, HoldsAll, ReadsAs}
 use Rattle.dg_txn.proofs.PinLaws.{pins_read}
-use Rattle.dg_txn.proofs.SpanLaws.{in_span}
 use Rattle.dg_txn.proofs.Walking.{least_found}
 
 -- ---- the keys of a map's entries
@@ -83,7 +82,7 @@ store_holds at schema owners pins graph pred store are is key own h =
     sym (pins_read at schema owners pins graph key are)
     ∙ nothing_read at key (copy_for owners pins (pred_of key)) ((λ i. has key_cmp (stored_keys (option_map (λ (copy : Copied). copy.store) (copy_for owners pins (own i)))) key) ∙ ((λ i. has key_cmp (stored_keys (sym is i)) key) ∙ h))
 
-no_ops : (parts : List Part) (key : Key) → has key_cmp (part_keys parts) key ≡ false → ops_at parts key ≡ []
+pub no_ops : (parts : List Part) (key : Key) → has key_cmp (part_keys parts) key ≡ false → ops_at parts key ≡ []
 no_ops [] key h = refl
 no_ops (part ∷ parts) key h = by (is_eq (key_cmp part.key key)) h (λ k. no_ops parts key k)
   where
@@ -91,19 +90,36 @@ no_ops (part ∷ parts) key h = by (is_eq (key_cmp part.key key)) h (λ k. no_op
     by true k rest = absurd (cc)
     by false k rest = rest k
 
-neither : (a b : Bool) → (a || b) ≡ false → (a ≡ false) × (b ≡ false)
-neither true b e = absurd (cc)
-neither false b e = (refl, e)
+same_text-of : (a b : List ℕ) → a ≡ b → same_text a b ≡ true
+same_text-of a b e = ap (same_text a) (sym e) ∙ same_text-itself a
 
-pub none_else : (span : Span) (schema : List PredDef) (graph : List Triple) (store : Option Lists) (parts : List Part) → HoldsAll span.pred store (listing schema graph) → NoneElse span (seen schema graph parts) (keys_of store parts)
-none_else span schema graph store parts holds key p h =
-    let both = neither (has key_cmp (stored_keys store) key) (has key_cmp (part_keys parts) key) (sym (has_joined key_cmp key_order (stored_keys store) (part_keys parts) key) ∙ h) in
-    λ i. after_ops (holds key (in_span span key p).pred both.0 i) (no_ops parts key both.1 i)
+-- the lists of a predicate's store are those of the graph
+pub store_reads : (at : ℕ) (schema : List PredDef) (owners : List Tablet) (pins : List Group) (graph : List Triple) (pred : List ℕ) (store : Option Lists) → ArePinsOf at schema owners pins graph → store ≡ option_map (λ (copy : Copied). copy.store) (copy_for owners pins pred) → IfSome store (ReadsAs at pred (listing schema graph))
+store_reads at schema owners pins graph pred store are is = subst (λ (s : Option Lists). IfSome s (ReadsAs at pred (listing schema graph))) (sym is) (by (tablet_of owners pred) refl)
+  where
+    of_it : (own : List ℕ) (o : Option Copied) → own ≡ pred → IsSomeAnd o (IsCopyOf at schema graph own) → IfSome (option_map (λ (copy : Copied). copy.store) o) (ReadsAs at pred (listing schema graph))
+    of_it own None e h = absurd (h)
+    of_it own (Some copy) e h = record { based = h.bases; read = λ key is. h.lists key (same_text-of (pred_of key) own (is ∙ sym e)) }
 
--- ---- what is found in each
+    by : (o : Option Tablet) → tablet_of owners pred ≡ o → IfSome (option_map (λ (copy : Copied). copy.store) (option_and_then (pinned_copy pins) o)) (ReadsAs at pred (listing schema graph))
+    by None e = tt
+    by (Some t) e =
+        of_it t.pred (pinned_copy pins t) (same_text-equal t.pred pred (found_is (λ t. same_text t.pred pred) owners t e)) (found_at (λ t. IsSomeAnd (pinned_copy pins t) (IsCopyOf at schema graph t.pred)) (λ t. same_text t.pred pred) owners t e are.held)
 
-pub stored_least : (passes : Key → Bool) (store : Lists) (o : Option (Key × Layered)) → IsMap key_cmp store → o ≡ find (λ e. passes e.0) store → IsLeast passes (stored_keys (Some store)) (option_map (λ e. e.0) o)
-stored_least passes store o m is = subst (λ (found : Option (Key × Layered)). IsLeast passes (stored_keys (Some store)) (option_map (λ e. e.0) found)) (sym is) (least_entry passes store m)
+-- ---- what is found among parts
+
+module _ {V : Type 0} where
+  -- a key has an entry where it is among the keys
+  pub under_has : (key : Key) (es : List (Key × V)) → is_some (lookup (eq_by_cmp key_cmp key) es) ≡ has key_cmp (map (λ e. e.0) es) key
+  under_has key [] = refl
+  under_has key (e ∷ es) = by (is_eq (key_cmp e.0 key)) (eq_turn key_cmp key_order key e.0) (under_has key es)
+    where
+      by : (v : Bool) → is_eq (key_cmp key e.0) ≡ v → is_some (lookup (eq_by_cmp key_cmp key) es) ≡ has key_cmp (map (λ e. e.0) es) key → is_some (cond (is_eq (key_cmp key e.0)) (Some e.1) (lookup (eq_by_cmp key_cmp key) es)) ≡ (v || has key_cmp (map (λ e. e.0) es) key)
+      by true q rest = ap (λ (b : Bool). is_some (cond b (Some e.1) (lookup (eq_by_cmp key_cmp key) es))) q
+      by false q rest = ap (λ (b : Bool). is_some (cond b (Some e.1) (lookup (eq_by_cmp key_cmp key) es))) q ∙ rest
+
+pub gained_has : (key : Key) (es : List (Key × List Op)) (parts : List Part) → parts_from es ≡ parts → is_some (lookup (eq_by_cmp key_cmp key) es) ≡ is_changed parts key
+gained_has key es parts made = under_has key es ∙ ap (λ (keys : List Key). has key_cmp keys key) (made_keys es ∙ ap part_keys made)
 
 pub gained_least : (passes : Key → Bool) (es : List (Key × List Op)) (parts : List Part) (o : Option (Key × List Op)) → IsMap key_cmp es → parts_from es ≡ parts → o ≡ find (λ e. passes e.0) es → IsLeast passes (part_keys parts) (option_map (λ e. e.0) o)
 gained_least passes es parts o m made is =

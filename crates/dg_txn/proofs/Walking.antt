@@ -3,7 +3,7 @@ use Rattle.std.proofs.Common.{◌≡◌, ◌<◌, ◌≤◌, ◌∙◌, sym, ap,
 use Rattle.std.specs.Prelude.{◌||◌, IfSome, find, filter}
 use Rattle.std.specs.declared.cmp.Ordering.{Ordering}
 use Rattle.std.specs.declared.cmp.Ordering.TheVariants.{Less, Equal, Greater}
-use Rattle.std.specs.Ordering.{nat_cmp, ordering_reverse, is_eq, is_le, is_lt}
+use Rattle.std.specs.Ordering.{nat_cmp, ordering_reverse, is_eq, is_le, is_lt, is_gt}
 use Rattle.dg_values.specs.Ascending.{Ascends, has}
 use Rattle.dg_values.specs.declared.value.Posting.{Posting}
 use Rattle.dg_sets.proofs.MadeOrders.{nat_order}
@@ -14,12 +14,12 @@ use Rattle.dg_keys.specs.Keys.{key_cmp}
 use Rattle.dg_keys.specs.KeyOrder.{key_order}
 use Rattle.dg_txn.specs.declared.span.Span.{Span}
 use Rattle.dg_txn.specs.Spans.{place, IsStart}
-use Rattle.dg_txn.specs.Walks.{shown, shown_at, lesser, reaches, IsLeast, NoneElse, Shows, AreShown}
+use Rattle.dg_txn.specs.Walks.{shown, shown_at, reaches, IsLeast, NoneElse, Shows, AreShown}
 use Rattle.dg_txn.proofs.SpanLaws.{place_past}
 
 -- ---- the least key
 
-key_same : (a b : Key) → is_eq (key_cmp a b) ≡ true → a ≡ b
+pub key_same : (a b : Key) → is_eq (key_cmp a b) ≡ true → a ≡ b
 key_same a b e = is_one key_cmp key_order a b e
 
 key_itself : (a : Key) → is_le (key_cmp a a) ≡ true
@@ -58,15 +58,15 @@ least_found passes (x ∷ keys) a = by (passes x) refl (least_found passes keys 
       least = λ key p h. of_rest q rest key p (is_eq (key_cmp x key)) refl h;
     }
 
-or_left : (a b : Bool) → a ≡ true → (a || b) ≡ true
+pub or_left : (a b : Bool) → a ≡ true → (a || b) ≡ true
 or_left true b e = refl
 or_left false b e = absurd (cc)
 
-or_right : (a b : Bool) → b ≡ true → (a || b) ≡ true
+pub or_right : (a b : Bool) → b ≡ true → (a || b) ≡ true
 or_right true b e = refl
 or_right false b e = e
 
-from_or : {G : Type 0} (a b : Bool) → (a || b) ≡ true → (a ≡ true → G) → (b ≡ true → G) → G
+pub from_or : {G : Type 0} (a b : Bool) → (a || b) ≡ true → (a ≡ true → G) → (b ≡ true → G) → G
 from_or true b e f g = f refl
 from_or false b e f g = g e
 
@@ -80,47 +80,9 @@ le_then a b c = by (key_cmp a b) refl (key_cmp b c) refl
     by Equal e p f le lf = ap is_le (ap (λ k. key_cmp k c) (key_order.same a b e) ∙ f) ∙ lf
     by Greater e p f le lf = absurd (cc)
 
-le_other : (a b : Key) → is_le (key_cmp a b) ≡ false → is_le (key_cmp b a) ≡ true
-le_other a b = by (key_cmp a b) refl
-  where
-    by : (o : Ordering) → key_cmp a b ≡ o → is_le o ≡ false → is_le (key_cmp b a) ≡ true
-    by Less e f = absurd (cc)
-    by Equal e f = absurd (cc)
-    by Greater e f = ap is_le (key_order.antisymm b a ∙ ap ordering_reverse e)
-
--- the least of two lists' keys
-pub least_joined : (passes : Key → Bool) (xs ys : List Key) (a b : Option Key) → IsLeast passes xs a → IsLeast passes ys b → IsLeast passes (xs ++ ys) (lesser a b)
-least_joined passes xs ys None b p q = record {
-  passes_too = q.passes_too;
-  one = of b q.one;
-  least = λ key e h. from_or (has key_cmp xs key) (has key_cmp ys key) (sym (has_joined key_cmp key_order xs ys key) ∙ h) (λ i. let is = p.least key e i in absurd (cc)) (λ i. q.least key e i);
-}
-  where
-    of : (o : Option Key) → IfSome o (λ key. has key_cmp ys key ≡ true) → IfSome o (λ key. has key_cmp (xs ++ ys) key ≡ true)
-    of None h = tt
-    of (Some key) h = has_joined key_cmp key_order xs ys key ∙ or_right (has key_cmp xs key) (has key_cmp ys key) h
-least_joined passes xs ys (Some a) None p q = record {
-  passes_too = p.passes_too;
-  one = has_joined key_cmp key_order xs ys a ∙ or_left (has key_cmp xs a) (has key_cmp ys a) p.one;
-  least = λ key e h. from_or (has key_cmp xs key) (has key_cmp ys key) (sym (has_joined key_cmp key_order xs ys key) ∙ h) (λ i. p.least key e i) (λ i. let is = q.least key e i in absurd (cc));
-}
-least_joined passes xs ys (Some a) (Some b) p q = by (is_le (key_cmp a b)) refl
-  where
-    by : (v : Bool) → is_le (key_cmp a b) ≡ v → IsLeast passes (xs ++ ys) (cond v (Some a) (Some b))
-    by true l = record {
-      passes_too = p.passes_too;
-      one = has_joined key_cmp key_order xs ys a ∙ or_left (has key_cmp xs a) (has key_cmp ys a) p.one;
-      least = λ key e h. from_or (has key_cmp xs key) (has key_cmp ys key) (sym (has_joined key_cmp key_order xs ys key) ∙ h) (λ i. p.least key e i) (λ i. le_then a b key l (q.least key e i));
-    }
-    by false l = record {
-      passes_too = q.passes_too;
-      one = has_joined key_cmp key_order xs ys b ∙ or_right (has key_cmp xs b) (has key_cmp ys b) q.one;
-      least = λ key e h. from_or (has key_cmp xs key) (has key_cmp ys key) (sym (has_joined key_cmp key_order xs ys key) ∙ h) (λ i. le_then b a key (le_other a b l) (p.least key e i)) (λ i. q.least key e i);
-    }
-
 -- ---- on the way
 
-nothing_shown : (key : Key) (list : List Posting) → list ≡ [] → shown key list ≡ []
+pub nothing_shown : (key : Key) (list : List Posting) → list ≡ [] → shown key list ≡ []
 nothing_shown key list e = ap (shown key) e ∙ of key
   where
     of : (key : Key) → shown key [] ≡ []
@@ -248,6 +210,11 @@ some_left (x ∷ keys) a h = by (is_eq (key_cmp x a)) refl h (λ k. some_left ke
     by : (v : Bool) → is_eq (key_cmp x a) ≡ v → (v || has key_cmp keys a) ≡ true → (has key_cmp keys a ≡ true → 0 < left_from keys (Some a)) → 0 < left_from (x ∷ keys) (Some a)
     by true e k rest = first (is_le (key_cmp a x)) (ap (λ y. is_le (key_cmp a y)) (key_same x a e) ∙ key_itself a)
     by false e k rest = of (is_le (key_cmp a x)) (rest k)
+
+pub from_gt : (o : Ordering) → is_gt o ≡ true → o ≡ Greater
+from_gt Less e = absurd (cc)
+from_gt Equal e = absurd (cc)
+from_gt Greater e = refl
 
 from_lt : (o : Ordering) → is_lt o ≡ true → o ≡ Less
 from_lt Less e = refl

@@ -1,6 +1,7 @@
 -- What walks over keys find.
-use Rattle.std.specs.Prelude.{◌≡◌, ℕ, Bool, true, false, cond, List, [], ◌∷◌, ◌++◌, Option, Some, None, IfSome, map, filter_map}
-use Rattle.std.specs.Ordering.{nat_cmp, is_le}
+use Rattle.std.specs.Prelude.{◌≡◌, ◌≤◌, ℕ, Bool, true, false, cond, List, [], ◌∷◌, ◌++◌, Option, Some, None, IfSome, map, filter_map}
+use Rattle.std.specs.List.{AllByRecursion}
+use Rattle.std.specs.Ordering.{nat_cmp, is_le, is_eq}
 use Rattle.std.specs.declared.cmp.Ordering.{Ordering}
 use Rattle.std.specs.declared.cmp.Ordering.TheVariants.{Equal}
 use Rattle.dg_values.specs.Ascending.{has}
@@ -10,7 +11,9 @@ use Rattle.dg_keys.specs.declared.key.Key.{Key}
 use Rattle.dg_keys.specs.declared.key.Key.TheVariants.{Data}
 use Rattle.dg_keys.specs.declared.record.Part.{Part}
 use Rattle.dg_keys.specs.Keys.{key_cmp, pred_of}
-use Rattle.dg_store.specs.Stores.{Lists}
+use Rattle.dg_list.specs.Lists.{Layered, reading}
+use Rattle.dg_pages.specs.Entries.{entries_above}
+use Rattle.dg_store.specs.Stores.{Lists, list_under, list_at}
 use Rattle.dg_txn.specs.declared.span.Span.{Span}
 use Rattle.dg_txn.specs.Spans.{place}
 
@@ -34,16 +37,6 @@ stored_keys (Some store) = map (λ e. e.0) store
 abbrev pub part_keys : List Part → List Key
 part_keys parts = map (λ part. part.key) parts
 
--- the keys of a store and of parts
-abbrev pub keys_of : Option Lists → List Part → List Key
-keys_of store parts = stored_keys store ++ part_keys parts
-
--- the lesser of two keys, so far as they are there
-abbrev pub lesser : Option Key → Option Key → Option Key
-lesser None b = b
-lesser (Some a) None = Some a
-lesser (Some a) (Some b) = cond (is_le (key_cmp a b)) (Some a) (Some b)
-
 -- the key is at or above one that was found
 abbrev pub reaches : Option Key → Key → Bool
 reaches None key = false
@@ -62,6 +55,36 @@ NoneElse span lists keys = (key : Key) → place span key ≡ Equal → has key_
 -- a key of the predicate that isn't in the store lists nothing
 abbrev pub HoldsAll : List ℕ → Option Lists → (Key → List Posting) → Type 0
 HoldsAll pred store lists = (key : Key) → pred_of key ≡ pred → has key_cmp (stored_keys store) key ≡ false → lists key ≡ []
+
+-- the lists of a predicate's keys in a store, read at a timestamp, are those
+pub record ReadsAs (at : ℕ) (pred : List ℕ) (lists : Key → List Posting) (store : Lists) : Type 0 where
+  pub based : AllByRecursion (λ e. e.1.base_ts ≤ at) store
+  pub read : (key : Key) → pred_of key ≡ pred → reading (list_at key store) at ≡ lists key
+
+-- one of the parts is of the key
+abbrev pub is_changed : List Part → Key → Bool
+is_changed parts key = has key_cmp (part_keys parts) key
+
+-- what keys list of which there is a part
+abbrev pub changed_lists : (Key → List Posting) → List Part → Key → List Posting
+changed_lists lists parts key = cond (is_changed parts key) (lists key) []
+
+-- what keys list of which there is none
+abbrev pub other_lists : (Key → List Posting) → List Part → Key → List Posting
+other_lists lists parts key = cond (is_changed parts key) [] (lists key)
+
+-- what an entry of a store shows at a timestamp: nothing where it isn't in the span, or there is a part of its key
+abbrev pub entry_shows : Span → ℕ → List Part → Key × Layered → List ℕ
+entry_shows span at parts e = cond (is_eq (place span e.0)) (cond (is_changed parts e.0) [] (shown e.0 (reading e.1 at))) []
+
+-- the entry of a key with this list, where it has one
+abbrev pub entry_with : Key → Option Layered → Lists
+entry_with key None = []
+entry_with key (Some list) = (key, list) ∷ []
+
+-- the entries of a store from a key on
+abbrev pub entries_from : Key → Lists → Lists
+entries_from key store = entry_with key (list_under key store) ++ entries_above key_cmp key store
 
 -- a key of the span shows the node
 abbrev pub Shows : Span → (Key → List Posting) → ℕ → Type 0

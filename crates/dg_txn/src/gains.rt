@@ -8,7 +8,7 @@ ghost use Rattle.dg_keys.specs.Keys.{key_cmp, ops_at, AreParts};
 ghost use Rattle.dg_pages.specs.Entries.{change_of, changes_of, entries_of};
 ghost use Rattle.dg_txn.specs.Gains.{parts_from, change_by, parts_after};
 ghost use Rattle.dg_pages.specs.Paged.{joined};
-ghost use Rattle.dg_txn.specs.Walks.{part_keys, IsLeast};
+ghost use Rattle.dg_txn.specs.Walks.{part_keys, is_changed, IsLeast};
 
 use crate::composing::{composed, push_copies};
 use dg_delta::Op;
@@ -58,6 +58,13 @@ impl Gains {
             Some(ops) => ops.as_slice(),
             None => &[],
         }
+    }
+
+    // Whether the list of a key changes.
+    pub fn has(&self, key: &Key) -> bool
+        ensures { result ≡ is_changed self.now key.now }
+    {
+        self.lists.get(key).is_some()
     }
 
     // The least key at or above this one whose list changes.

@@ -15,7 +15,6 @@ mod overlay;
 mod present;
 mod reads;
 mod span;
-mod standing;
 mod txn;
 mod walk;
 

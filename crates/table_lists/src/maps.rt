@@ -1,6 +1,6 @@
 // The table of ordered maps from numbers to numbers.
 use crate::fault::{Answer, Fault};
-use crate::pages::{made, page_text, walked};
+use crate::pages::{made, page_text, run_text, walked, walked_above};
 use crate::versions::{add, at};
 use crate::words::{number, only_number};
 use dg_pages::Pages;
@@ -31,6 +31,8 @@ pub(crate) fn answer(
         "get" => found(alloc, map, only_number(words)?),
         "from" => next(alloc, map, only_number(words)?),
         "above" => above(alloc, map, only_number(words)?),
+        "run" => run_text(alloc, map, only_number(words)?),
+        "runs" => walked_above(alloc, map, only_number(words)?),
         "page" => page_text(alloc, map, only_number(words)?),
         "walk" => walked(alloc, map),
         _ => {

@@ -23,6 +23,11 @@ pub(crate) fn page_text(alloc: Global, map: &Pages<u64, u64>, at: u64) -> Answer
     }
 }
 
+// The first pairs above a key, where they are of one page.
+pub(crate) fn run_text(alloc: Global, map: &Pages<u64, u64>, key: u64) -> Answer<String> {
+    Ok(pairs_text(alloc, map.run_above(&key))?)
+}
+
 fn pairs_text(alloc: Global, pairs: &[(Arc<u64>, Arc<u64>)]) -> Mem<String> {
     let mut texts = Vec::new(alloc);
     for pair in pairs {
@@ -44,13 +49,7 @@ struct Walk {
 // How many pairs the pages have, the sums of their keys and values, and whether each page has 1 to 64 pairs and the keys
 // ascend.
 pub(crate) fn walked(alloc: Global, map: &Pages<u64, u64>) -> Answer<String> {
-    let mut walk = Walk {
-        pairs: 0,
-        keys: 0,
-        values: 0,
-        last: None,
-        in_order: true,
-    };
+    let mut walk = Walk::new();
     for at in 0..MOST_PAGES {
         match map.page(at) {
             Some(pairs) => walk.go_through(pairs),
@@ -60,7 +59,34 @@ pub(crate) fn walked(alloc: Global, map: &Pages<u64, u64>) -> Answer<String> {
     Err(Fault::Unfit)
 }
 
+// The same of the pairs above a key, which are gone through by the first of them at a time.
+pub(crate) fn walked_above(alloc: Global, map: &Pages<u64, u64>, key: u64) -> Answer<String> {
+    let mut walk = Walk::new();
+    let mut after = key;
+    for _ in 0..MOST_PAGES {
+        let run = map.run_above(&after);
+        match run.last() {
+            Some(pair) => {
+                walk.go_through(run);
+                after = *pair.0;
+            }
+            None => return Ok(walk.text(alloc)?),
+        }
+    }
+    Err(Fault::Unfit)
+}
+
 impl Walk {
+    fn new() -> Walk {
+        Walk {
+            pairs: 0,
+            keys: 0,
+            values: 0,
+            last: None,
+            in_order: true,
+        }
+    }
+
     fn go_through(&mut self, pairs: &[(Arc<u64>, Arc<u64>)]) {
         if pairs.is_empty() || PAGE < pairs.len() {
             self.in_order = false;

@@ -151,6 +151,7 @@ fn asked(alloc: Global, store: &KeptStore, command: &str, words: &[&str]) -> Ans
         "get" => listed(alloc, store, words),
         "from" => next(alloc, store, words),
         "above" => above(alloc, store, words),
+        "run" => run(alloc, store, words),
         "of" => parts_on(alloc, words),
         "layered" => layered(alloc, store, words),
         "read" => read(alloc, store, words),
@@ -185,6 +186,19 @@ fn above(alloc: Global, store: &KeptStore, words: &[&str]) -> Answer<String> {
         Some((key, _)) => Ok(key_text(alloc, key)?),
         None => Ok(String::from_str(alloc, "none")?),
     }
+}
+
+// The first keys above one, where they stand together.
+fn run(alloc: Global, store: &KeptStore, words: &[&str]) -> Answer<String> {
+    let after = key(alloc, words)?;
+    let mut texts = Vec::new(alloc);
+    for (key, _) in store.store().run_above(&after) {
+        texts.push(key_text(alloc, key)?)?;
+    }
+    if texts.is_empty() {
+        return Ok(String::from_str(alloc, "none")?);
+    }
+    Ok(texts.as_slice().join(alloc, ", ")?)
 }
 
 // The keys of the parts of a predicate, among parts whose keys have to ascend.
