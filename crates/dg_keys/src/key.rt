@@ -1,5 +1,6 @@
 // Keys of posting lists.
 ghost use Rattle.std.specs.Prelude.{◌≡◌, IfOk};
+ghost use Rattle.std.specs.Ordering.{nat_cmp, ordering_then};
 ghost use Rattle.dg_keys.specs.Keys.{pred_of, kind_rank, field_cmp};
 
 use dg_sets::InOrder;
@@ -67,9 +68,10 @@ impl Key {
         }
     }
 
-    // The order by the last field.
+    // The order of two keys of one predicate: by the last field, where they are of one kind.
+    #[tactic(auto, using(crate::proofs::KindsFirst::kinds_first))]
     fn compare_fields(&self, other: &Key) -> Ordering
-        ensures { result ≡ field_cmp self.now other.now }
+        ensures { result ≡ ordering_then (nat_cmp (kind_rank self.now) (kind_rank other.now)) (field_cmp self.now other.now) }
     {
         match (self, other) {
             (Key::Data { s: a, .. }, Key::Data { s: b, .. }) => a.cmp(b),
@@ -92,9 +94,9 @@ impl InOrder for Key {
     ghost total = { key_order };
 
     fn compare(&self, other: &Key) -> Ordering {
-        self.pred()
-            .compare(other.pred())
-            .then(self.rank().cmp(&other.rank()))
-            .then(self.compare_fields(other))
+        match self.pred().compare(other.pred()) {
+            Ordering::Equal => self.compare_fields(other),
+            unequal => unequal,
+        }
     }
 }
