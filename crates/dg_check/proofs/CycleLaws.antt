@@ -231,5 +231,7 @@ none_circular blocks order ordered all = none_found (is_circular blocks) (ascend
 pub all_run_none_circular : (blocks : List BlockNames) → ((at : ℕ) → at < length blocks → is_place_in (run_order (dependencies blocks)) at ≡ true) → least_circular blocks ≡ None
 all_run_none_circular blocks all = none_circular blocks (run_order (dependencies blocks)) (run_order_is_ordered (dependencies blocks)) all
 
-pub no_cycle : (blocks : List BlockNames) (all : Bool) → IsTrue all ↔ ((at : ℕ) → at < length blocks → is_place_in (run_order (dependencies blocks)) at ≡ true) → all ≡ true → None ≡ cycle blocks
-no_cycle blocks all told yes_ = sym (ap (option_map faults.VariableCycle) (all_run_none_circular blocks (told.0 yes_)))
+-- where these are the blocks that can run, and they are all, no variable is circular
+pub no_cycle : (blocks : List BlockNames) (ran : List ℕ) (all : Bool) → ((at : ℕ) → is_place_in ran at ≡ is_place_in (run_order (dependencies blocks)) at)
+    → IsTrue all ↔ ((at : ℕ) → at < length blocks → is_place_in ran at ≡ true) → all ≡ true → None ≡ cycle blocks
+no_cycle blocks ran all same told yes_ = sym (ap (option_map faults.VariableCycle) (all_run_none_circular blocks (λ at lt. sym (same at) ∙ told.0 yes_ at lt)))

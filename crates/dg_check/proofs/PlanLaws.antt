@@ -278,6 +278,11 @@ at_parts schema list r bs blocks ps places us uses e f g told =
     (subst (λ (l : List Place). IfOk r (IsOutcome schema (definitions_in schema l) list l (fault_before schema bs l uses) (fault_among schema bs l uses))) f
     (subst (λ (l : List Use). IfOk r (IsOutcome schema (definitions_in schema ps) list ps (fault_before schema bs ps l) (fault_among schema bs ps l))) g told))
 
+-- what holds of a part of what a call answers, of which the part is told
+pub at_part : {X Y : Type 0} (P : Y → Type 0) (part : X → Y) (r : Result X OutOfMemory) (told : Y) → IfOk r (λ x. part x ≡ told) → P told → IfOk r (λ x. P (part x))
+at_part P part (Ok x) told e p = subst P (sym e) p
+at_part P part (Err fault) told e p = tt
+
 -- the plan of a query in which nothing is wrong
 pub planned_query : (schema : List PredDef) (query : Query) (list : List Refusal) (out : Result (List Read) CheckFault) (r : Result Plan OutOfMemory) (plan : Plan) (read : List Read) → IsQueryOutcome schema query list out → out ≡ Ok read → r ≡ Ok plan
     → plan.query ≡ query → plan.vars ≡ names_for false (definitions_in [] (places_of_query query))

@@ -1,11 +1,11 @@
 // The names that each block defines and uses.
-ghost use Rattle.std.specs.Prelude.{◌≡◌, IfOk, flat_map, map};
+ghost use Rattle.std.specs.Prelude.{◌≡◌, ◌++◌, ◌∷◌, [], IfOk, OnOk, flat_map, map};
 ghost use Rattle.dg_check.specs.Places.{places_met, places_of_block};
 ghost use Rattle.dg_check.specs.Variables.{uses_met};
 ghost use Rattle.dg_check.specs.Blocks.{names_of_block, names_of_blocks};
 
 use crate::names::Names;
-use crate::places::{Place, places_of_block};
+use crate::places::{Place, add_block, places_of_block};
 use crate::uses::{Use, uses_of_places};
 use crate::variables::{all_names, definitions_of};
 use dg_parse::QBlock;
@@ -62,6 +62,38 @@ pub fn names_of_blocks<'a>(alloc: Global, blocks: &'a [QBlock]) -> Mem<Vec<Block
         names.push(names_of_one(alloc, block)?)?;
     }
     Ok(names)
+}
+
+// Adds the places of a block, and the names that it defines and uses.
+fn add_seen<'a>(
+    alloc: Global,
+    places: &mut Vec<Place<'a>>,
+    names: &mut Vec<BlockNames<'a>>,
+    block: &'a QBlock,
+) -> Mem<()>
+    ensures places { OnOk result (places_met places.new.items ≡ places_met places.old.items ++ places_of_block block.now) }
+    ensures names { OnOk result (names.new.items ≡ names.old.items ++ names_of_block (places_of_block block.now) ∷ []) }
+{
+    let before = places.len();
+    add_block(places, block)?;
+    let own = names_of_block(alloc, &places.as_slice()[before..])?;
+    Ok(names.push(own)?)
+}
+
+/// The places of blocks, in the order of the text, and the names that each block defines and uses. The text is gone over once.
+pub fn places_and_names<'a>(
+    alloc: Global,
+    blocks: &'a [QBlock],
+) -> Mem<(Vec<Place<'a>>, Vec<BlockNames<'a>>)>
+    ensures places { IfOk result (λ made. places_met made.0.items ≡ flat_map places_of_block blocks.now) }
+    ensures names { IfOk result (λ made. made.1.items ≡ names_of_blocks blocks.now) }
+{
+    let mut places = Vec::new(alloc);
+    let mut names = Vec::new(alloc);
+    for block in blocks {
+        add_seen(alloc, &mut places, &mut names, block)?;
+    }
+    Ok((places, names))
 }
 
 /// Copies of the names that blocks define, in their order. The error is want of memory.

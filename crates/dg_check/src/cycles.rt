@@ -1,11 +1,11 @@
 // Which variables are used in a block on which their own block depends: none where all blocks can run, and else by going
 // from the blocks that define one to all that these lead to. Only of suspects that is asked.
-ghost use Rattle.std.specs.Prelude.{◌≡◌, IfOk, find, flat_map};
+ghost use Rattle.std.specs.Prelude.{◌≡◌, ℕ, IfOk, find, flat_map};
 ghost use Rattle.std.specs.List.{list_any};
 ghost use Rattle.dg_values.specs.Ascending.{ascending};
 ghost use Rattle.dg_values.specs.Order.{text_cmp};
 ghost use Rattle.dg_check.specs.Cycles.{is_place_in, uses_of, uses_at, uses_name_at, is_reached, with_used, definers, depended_on, is_circular, least_circular};
-ghost use Rattle.dg_check.specs.RunOrder.{dependencies};
+ghost use Rattle.dg_check.specs.RunOrder.{dependencies, run_order};
 ghost use Rattle.dg_check.specs.Numbers.{is_suspect, AreSuspects};
 ghost use Rattle.dg_check.specs.Faults.{cycle};
 
@@ -13,7 +13,7 @@ use crate::CheckFault;
 use crate::blocks::{BlockNames, defined_names};
 use crate::names::Names;
 use crate::needs::dependencies;
-use crate::order::can_all_run;
+use crate::order::{have_all_run, run_among};
 use crate::ran::Ran;
 use crate::search::{add_led, add_new};
 use crate::suspects::suspects_of;
@@ -206,16 +206,28 @@ fn least_circular(alloc: Global, blocks: &[BlockNames<'_>]) -> Mem<Option<Str>>
     first_circular(alloc, blocks, deps.as_slice(), &suspects, names.as_slice())
 }
 
-/// The fault of the least circular variable, where there is one. Where all blocks can run there is none.
-pub fn cycle(alloc: Global, blocks: &[BlockNames<'_>]) -> Mem<Option<CheckFault>>
+/// The fault of the least circular variable, where there is one, given the blocks that can run. Where all can there is none.
+pub fn cycle_unless_run(
+    alloc: Global,
+    blocks: &[BlockNames<'_>],
+    ran: &Ran,
+) -> Mem<Option<CheckFault>>
+    requires { (at : ℕ) → is_place_in ran.now at ≡ is_place_in (run_order (dependencies blocks.now)) at }
     ensures { IfOk result (λ found. found ≡ cycle blocks.now) }
 {
-    let all = can_all_run(alloc, blocks)?;
-    if all {
+    if have_all_run(ran, blocks.len()) {
         return Ok(None);
     }
     match least_circular(alloc, blocks)? {
         None => Ok(None),
         Some(name) => Ok(Some(CheckFault::VariableCycle { name })),
     }
+}
+
+/// The fault of the least circular variable, where there is one.
+pub fn cycle(alloc: Global, blocks: &[BlockNames<'_>]) -> Mem<Option<CheckFault>>
+    ensures { IfOk result (λ found. found ≡ cycle blocks.now) }
+{
+    let ran = run_among(alloc, blocks)?;
+    cycle_unless_run(alloc, blocks, &ran)
 }

@@ -175,8 +175,8 @@ fn run_blocks(alloc: Global, deps: &[List<usize>]) -> Mem<Ran>
     Ok(ran)
 }
 
-// Whether all of so many blocks have run.
-fn have_all_run(ran: &Ran, count: usize) -> bool
+/// Whether all of so many blocks have run.
+pub fn have_all_run(ran: &Ran, count: usize) -> bool
     ensures { IsTrue result ↔ ((at : ℕ) → at < count → is_place_in ran.now at ≡ true) }
 {
     for at in 0..count {
@@ -187,23 +187,14 @@ fn have_all_run(ran: &Ran, count: usize) -> bool
     true
 }
 
-/// Whether all blocks can run, so that none waits for itself.
-pub fn can_all_run(alloc: Global, blocks: &[BlockNames<'_>]) -> Mem<bool>
-    ensures { IfOk result (λ all. IsTrue all ↔ ((at : ℕ) → at < length blocks.now → is_place_in (run_order (dependencies blocks.now)) at ≡ true)) }
-{
-    let deps = dependencies(alloc, blocks)?;
-    let ran = run_blocks(alloc, deps.as_slice())?;
-    Ok(have_all_run(&ran, blocks.len()))
-}
-
 /// The places of blocks in an order in which they can run: each is a block that hasn't run, and comes after those whose variables
 /// it uses. A block that waits for itself isn't there, nor is one that waits for such a block. The error is want of memory.
-pub fn order_among(alloc: Global, blocks: &[BlockNames<'_>]) -> Mem<Vec<usize>>
-    ensures ready { IfOk result (λ order. are_ready (dependencies blocks.now) [] order.items ≡ true) }
-    ensures same { IfOk result (λ order. (at : ℕ) → is_place_in order.items at ≡ is_place_in (run_order (dependencies blocks.now)) at) }
+pub fn run_among(alloc: Global, blocks: &[BlockNames<'_>]) -> Mem<Ran>
+    ensures ready { IfOk result (λ ran. are_ready (dependencies blocks.now) [] ran ≡ true) }
+    ensures same { IfOk result (λ ran. (at : ℕ) → is_place_in ran at ≡ is_place_in (run_order (dependencies blocks.now)) at) }
 {
     let deps = dependencies(alloc, blocks)?;
-    Ok(run_blocks(alloc, deps.as_slice())?.into_order())
+    run_blocks(alloc, deps.as_slice())
 }
 
 /// The same of a query's blocks.
@@ -214,5 +205,5 @@ pub fn order_of(alloc: Global, query: &Query) -> Mem<Vec<usize>>
     ensures same { IfOk result (λ order. (at : ℕ) → is_place_in order.items at ≡ is_place_in (order_of query.now) at) }
 {
     let blocks = names_of_blocks(alloc, query.blocks.as_slice())?;
-    order_among(alloc, blocks.as_slice())
+    Ok(run_among(alloc, blocks.as_slice())?.into_order())
 }

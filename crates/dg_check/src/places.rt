@@ -177,8 +177,8 @@ fn add_root<'a>(out: &mut Vec<Place<'a>>, func: &'a Option<QFunc>) -> Mem<()>
     }
 }
 
-// Adds the places of a block.
-fn add_block<'a>(out: &mut Vec<Place<'a>>, block: &'a QBlock) -> Mem<()>
+/// Adds the places of a block, in the order of its text.
+pub fn add_block<'a>(out: &mut Vec<Place<'a>>, block: &'a QBlock) -> Mem<()>
     ensures { OnOk result (places_met out.new.items ≡ places_met out.old.items ++ places_of_block block.now) }
 {
     add_var(out, &block.var, Source::Listed)?;

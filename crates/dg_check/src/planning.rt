@@ -6,22 +6,23 @@ ghost use Rattle.dg_check.specs.Places.{places_met, places_of_query};
 ghost use Rattle.dg_check.specs.Variables.{Definition, definitions_in, names_for, uses_met};
 ghost use Rattle.dg_check.specs.Blocks.{names_of_blocks};
 ghost use Rattle.dg_check.specs.Cycles.{is_place_in};
-ghost use Rattle.dg_check.specs.RunOrder.{are_ready, dependencies, order_of};
+ghost use Rattle.dg_check.specs.RunOrder.{are_ready, dependencies, order_of, run_order};
 ghost use Rattle.dg_check.specs.Faults.{first_of, not_indexed_at, cycle, fault_of_pages, fault_of_literals, fault_behind, fault_among, fault_of, fault_of_upsert};
 ghost use Rattle.dg_check.specs.Patterns.{IsFrontOf};
 ghost use Rattle.dg_check.specs.Parts.{Takes, asked_of_block, AreBlocksOf};
 ghost use Rattle.dg_check.specs.Outcomes.{fault_before, unless, IsOutcome, IsQueryOutcome, IsUpsertOutcome, IsPlanOf, IsFaultOf, IsFaultOfUpsert};
 
-use crate::blocks::{BlockNames, defined_names, names_of_blocks};
+use crate::blocks::{BlockNames, defined_names, places_and_names};
 use crate::building::parts_of;
 use crate::checking::{fault_of_pages, fault_of_variables, uses_of_upsert};
-use crate::cycles::cycle;
+use crate::cycles::cycle_unless_run;
 use crate::finding::first_found;
 use crate::indexes::Indexed;
 use crate::literals::{Literals, Variables};
-use crate::order::order_among;
-use crate::places::{Place, places_of};
+use crate::order::run_among;
+use crate::places::Place;
 use crate::plan::Read;
+use crate::ran::Ran;
 use crate::reading::read_places;
 use crate::uses::{Use, uses_of_places};
 use crate::variables::definitions_of;
@@ -86,14 +87,16 @@ fn read_acyclic<'a, P: Patterns>(
     alloc: Global,
     schema: &'a Schema,
     blocks: &[BlockNames<'_>],
+    ran: &Ran,
     variables: Variables<'a>,
     patterns: &mut P,
     places: &[Place<'_>],
 ) -> Mem<Result<List<Read>, CheckFault>>
+    requires { (at : ℕ) → is_place_in ran.now at ≡ is_place_in (run_order (dependencies blocks.now)) at }
     ensures outcome { IfOk result (IsOutcome schema.now variables.entry (P.refused patterns.new) (places_met places.now) (option_or (cycle blocks.now) (first_of (not_indexed_at schema.now) (places_met places.now))) (option_or (cycle blocks.now) (fault_behind schema.now variables.entry (places_met places.now)))) }
     ensures grows { IsFrontOf (P.refused patterns.old) (P.refused patterns.new) }
 {
-    match cycle(alloc, blocks)? {
+    match cycle_unless_run(alloc, blocks, ran)? {
         Some(fault) => Ok(Err(fault)),
         None => read_indexed(alloc, schema, variables, patterns, places),
     }
@@ -104,10 +107,12 @@ fn read_checked<'a, P: Patterns>(
     alloc: Global,
     schema: &'a Schema,
     blocks: &[BlockNames<'_>],
+    ran: &Ran,
     patterns: &mut P,
     places: &[Place<'a>],
     uses: &[Use<'_>],
 ) -> Mem<Result<List<Read>, CheckFault>>
+    requires { (at : ℕ) → is_place_in ran.now at ≡ is_place_in (run_order (dependencies blocks.now)) at }
     ensures outcome { IfOk result (IsOutcome schema.now (definitions_in schema.now (places_met places.now)) (P.refused patterns.new) (places_met places.now) (fault_before schema.now blocks.now (places_met places.now) (uses_met uses.now)) (fault_among schema.now blocks.now (places_met places.now) (uses_met uses.now))) }
     ensures grows { IsFrontOf (P.refused patterns.old) (P.refused patterns.new) }
 {
@@ -116,78 +121,128 @@ fn read_checked<'a, P: Patterns>(
         Some(fault) => Ok(Err(fault)),
         None => {
             let variables = Variables::of(alloc, definitions)?;
-            read_acyclic(alloc, schema, blocks, variables, patterns, places)
+            read_acyclic(alloc, schema, blocks, ran, variables, patterns, places)
         }
     }
 }
 
-// What is read of a query, or what its checks find.
-fn read_query<P: Patterns>(
+// What the checks look at of a query: its places, the names that each block defines and uses, and the blocks that can run.
+#[derive(Drop)]
+struct Looked<'a> {
+    places: Vec<Place<'a>>,
+    blocks: Vec<BlockNames<'a>>,
+    ran: Ran,
+}
+
+// What its checks come to: what is read of it or a fault; the order in which its blocks run, and the names of its variables in
+// the order in which the text defines them.
+#[derive(Drop)]
+struct Checked {
+    found: Result<List<Read>, CheckFault>,
+    order: List<usize>,
+    vars: List<Str>,
+}
+
+// What the checks look at.
+fn look<'a>(alloc: Global, query: &'a Query) -> Mem<Looked<'a>>
+    ensures places { IfOk result (λ looked. places_met looked.places.items ≡ places_of_query query.now) }
+    ensures blocks { IfOk result (λ looked. looked.blocks.items ≡ names_of_blocks query.now.blocks) }
+    ensures ready { IfOk result (λ looked. are_ready (dependencies (names_of_blocks query.now.blocks)) [] looked.ran ≡ true) }
+    ensures there { IfOk result (λ looked. (at : ℕ) → is_place_in looked.ran at ≡ is_place_in (order_of query.now) at) }
+{
+    let (places, blocks) = places_and_names(alloc, query.blocks.as_slice())?;
+    let ran = run_among(alloc, blocks.as_slice())?;
+    Ok(Looked {
+        places,
+        blocks,
+        ran,
+    })
+}
+
+// The same with how the blocks run and which variables they define.
+fn with_order(
+    alloc: Global,
+    looked: Looked<'_>,
+    found: Result<List<Read>, CheckFault>,
+) -> Mem<Checked>
+    ensures found { IfOk result (λ checked. checked.found ≡ found) }
+    ensures order { IfOk result (λ checked. checked.order ≡ looked.entry.ran) }
+    ensures vars { IfOk result (λ checked. checked.vars ≡ flat_map (λ block. block.defined) looked.entry.blocks.items) }
+{
+    let Looked { blocks, ran, .. } = looked;
+    let names = defined_names(alloc, blocks.as_slice())?;
+    Ok(Checked {
+        found,
+        order: List::from_vec(ran.into_order()),
+        vars: List::from_vec(names),
+    })
+}
+
+// What the checks of a query come to.
+fn check_query<P: Patterns>(
     alloc: Global,
     query: &Query,
     schema: &Schema,
     patterns: &mut P,
-) -> Mem<Result<List<Read>, CheckFault>>
-    ensures outcome { IfOk result (IsQueryOutcome schema.now query.now (P.refused patterns.new)) }
+) -> Mem<Checked>
+    ensures outcome { IfOk result (λ checked. IsQueryOutcome schema.now query.now (P.refused patterns.new) checked.found) }
+    ensures ready { IfOk result (λ checked. are_ready (dependencies (names_of_blocks query.now.blocks)) [] checked.order ≡ true) }
+    ensures there { IfOk result (λ checked. (at : ℕ) → is_place_in checked.order at ≡ is_place_in (order_of query.now) at) }
+    ensures vars { IfOk result (λ checked. checked.vars ≡ names_for false (definitions_in [] (places_of_query query.now))) }
     ensures grows { IsFrontOf (P.refused patterns.old) (P.refused patterns.new) }
 {
-    let blocks = names_of_blocks(alloc, query.blocks.as_slice())?;
-    let places = places_of(alloc, query)?;
-    let uses = uses_of_places(alloc, places.as_slice())?;
-    read_checked(
+    let looked = look(alloc, query)?;
+    let uses = uses_of_places(alloc, looked.places.as_slice())?;
+    let found = read_checked(
         alloc,
         schema,
-        blocks.as_slice(),
+        looked.blocks.as_slice(),
+        &looked.ran,
         patterns,
-        places.as_slice(),
+        looked.places.as_slice(),
         uses.as_slice(),
-    )
+    )?;
+    with_order(alloc, looked, found)
 }
 
-// What is read of an upsert block's query, or what its checks find.
-fn read_upsert<P: Patterns>(
+// What the checks of an upsert block's query come to.
+fn check_upsert_query<P: Patterns>(
     alloc: Global,
     upsert: &Upsert,
     schema: &Schema,
     patterns: &mut P,
-) -> Mem<Result<List<Read>, CheckFault>>
-    ensures outcome { IfOk result (IsUpsertOutcome schema.now upsert.now (P.refused patterns.new)) }
+) -> Mem<Checked>
+    ensures outcome { IfOk result (λ checked. IsUpsertOutcome schema.now upsert.now (P.refused patterns.new) checked.found) }
+    ensures ready { IfOk result (λ checked. are_ready (dependencies (names_of_blocks upsert.now.query.blocks)) [] checked.order ≡ true) }
+    ensures there { IfOk result (λ checked. (at : ℕ) → is_place_in checked.order at ≡ is_place_in (order_of upsert.now.query) at) }
+    ensures vars { IfOk result (λ checked. checked.vars ≡ names_for false (definitions_in [] (places_of_query upsert.now.query))) }
     ensures grows { IsFrontOf (P.refused patterns.old) (P.refused patterns.new) }
 {
-    let blocks = names_of_blocks(alloc, upsert.query.blocks.as_slice())?;
-    let places = places_of(alloc, &upsert.query)?;
-    let uses = uses_of_upsert(alloc, places.as_slice(), upsert.muts.as_slice())?;
-    read_checked(
+    let looked = look(alloc, &upsert.query)?;
+    let uses = uses_of_upsert(alloc, looked.places.as_slice(), upsert.muts.as_slice())?;
+    let found = read_checked(
         alloc,
         schema,
-        blocks.as_slice(),
+        looked.blocks.as_slice(),
+        &looked.ran,
         patterns,
-        places.as_slice(),
+        looked.places.as_slice(),
         uses.as_slice(),
-    )
-}
-
-// The order in which a query's blocks run, and the names of its variables in the order in which the text defines them.
-fn order_and_names(alloc: Global, query: &Query) -> Mem<(List<usize>, List<Str>)>
-    ensures ready { IfOk result (λ made. are_ready (dependencies (names_of_blocks query.now.blocks)) [] made.0 ≡ true) }
-    ensures there { IfOk result (λ made. (at : ℕ) → is_place_in made.0 at ≡ is_place_in (order_of query.now) at) }
-    ensures vars { IfOk result (λ made. made.1 ≡ names_for false (definitions_in [] (places_of_query query.now))) }
-{
-    let blocks = names_of_blocks(alloc, query.blocks.as_slice())?;
-    let order = order_among(alloc, blocks.as_slice())?;
-    let names = defined_names(alloc, blocks.as_slice())?;
-    Ok((List::from_vec(order), List::from_vec(names)))
+    )?;
+    with_order(alloc, looked, found)
 }
 
 // The plan of a query, of which this was read.
-fn plan_of(alloc: Global, query: Query, read: List<Read>) -> Mem<Plan>
-    ensures same { IfOk result (λ plan. plan.query ≡ query) }
-    ensures vars { IfOk result (λ plan. plan.vars ≡ names_for false (definitions_in [] (places_of_query query))) }
+fn plan_of(
+    alloc: Global,
+    query: Query,
+    order: List<usize>,
+    vars: List<Str>,
+    read: List<Read>,
+) -> Mem<Plan>
+    ensures same { IfOk result (λ plan. (plan.query ≡ query) × (plan.order ≡ order) × (plan.vars ≡ vars)) }
     ensures parts { (schema : Items PredDef) (ds : Items Definition) → Takes schema ds (flat_map asked_of_block query.blocks) read [] → IfOk result (λ plan. AreBlocksOf schema ds query.blocks plan.parts) }
-    ensures ready { IfOk result (λ plan. are_ready (dependencies (names_of_blocks query.blocks)) [] plan.order ≡ true) }
-    ensures there { IfOk result (λ plan. (at : ℕ) → is_place_in plan.order at ≡ is_place_in (order_of query) at) }
 {
-    let (order, vars) = order_and_names(alloc, &query)?;
     let parts = parts_of(alloc, query.blocks.as_slice(), read)?;
     Ok(Plan {
         query,
@@ -215,9 +270,10 @@ pub fn check<P: Patterns>(
     ensures fault { IfErr result (IsFaultOf schema.now query (P.refused patterns.new)) }
     ensures grows { IsFrontOf (P.refused patterns.old) (P.refused patterns.new) }
 {
-    match read_query(alloc, &query, schema, patterns)? {
+    let Checked { found, order, vars } = check_query(alloc, &query, schema, patterns)?;
+    match found {
         Err(fault) => Err(fault),
-        Ok(read) => Ok(plan_of(alloc, query, read)?),
+        Ok(read) => Ok(plan_of(alloc, query, order, vars, read)?),
     }
 }
 
@@ -238,11 +294,12 @@ pub fn check_upsert<P: Patterns>(
     ensures fault { IfErr result (IsFaultOfUpsert schema.now upsert (P.refused patterns.new)) }
     ensures grows { IsFrontOf (P.refused patterns.old) (P.refused patterns.new) }
 {
-    match read_upsert(alloc, &upsert, schema, patterns)? {
+    let Checked { found, order, vars } = check_upsert_query(alloc, &upsert, schema, patterns)?;
+    match found {
         Err(fault) => Err(fault),
         Ok(read) => {
             let Upsert { query, muts } = upsert;
-            let plan = plan_of(alloc, query, read)?;
+            let plan = plan_of(alloc, query, order, vars, read)?;
             Ok((plan, Blocks { mutations: muts }))
         }
     }
