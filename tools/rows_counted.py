@@ -202,6 +202,23 @@ def ring_rows() -> Iterator[tuple[str, str]]:
     yield counted("{ q(func: uid(0x1)) { next (first: 2) { next (first: 1) { uid } } } }", shown, objects=1 + 2)
 
 
+def cascade_rows() -> Iterator[tuple[str, str]]:
+    """Cascades over the same graph, along ten lists of one node each."""
+    yield "# A cascade of the block reads each of ten lists for the block's own list (10), and then for that of its first edge (1 and 9); what is shown", ""
+    yield "# reads none again. One of the first edge reads that edge's list (1), and those below for it (9). None is read more often, however deep.", ""
+    yield "# Where nothing is left no list is read twice: 1, 30 and 30 lists, and the values of 30 nodes.", ""
+    below, shown = "uid", uids(1)[0]
+    for _ in range(10):
+        below = f"next (first: 1) {{ {below} }}"
+        shown = f'{{"next":[{shown}]}}'
+    yield counted(f"{{ q(func: uid(0x1)) @cascade {{ {below} }} }}", block(shown), objects=10 + 10)
+    edge = below.replace("(first: 1)", "(first: 1) @cascade", 1)
+    yield counted(f"{{ q(func: uid(0x1)) {{ {edge} }} }}", block(shown), objects=1 + 9)
+    flat = below.replace("uid", "u: uid")
+    yield counted(f"{{ q(func: uid(0x1)) @cascade @normalize {{ {flat} }} }}", block('{"u":"0x1"}'), objects=10 + 10)
+    yield counted("{ q(func: uid(0x1)) @cascade { next { next { next { none } } } } }", block(), objects=1 + 30 + 30 + 30)
+
+
 def rows() -> Iterator[tuple[str, str]]:
     yield "# Calls of each kind but `schema` that a query makes of a graph. Wanted: worked out by hand from the table at `root` of dg_funcs and", ""
     yield "# from what dg_level says of levels, as the comments below say.", ""
@@ -218,3 +235,4 @@ def rows() -> Iterator[tuple[str, str]]:
     yield root('eq(name, ["Ann", "Bob"])', 1, 2, by_token=2)
     yield root('between(name, "B", "D")', 2, 3, by_token_range=1, objects=2)
     yield from ring_rows()
+    yield from cascade_rows()

@@ -23,8 +23,8 @@ use std::sync::ledger::Ledger;
 ///
 /// It goes level by level: the lists of all nodes under an edge, the union of the lists as the level below, and the rows of
 /// that. The row of a node is made once in each level, whatever number of nodes lead to it, and so is each look-up for a node
-/// and a field. Where a cascade goes on from above, lists lose the nodes at which a field is missing; for that the lists of a level
-/// are read once more.
+/// and a field. Where a cascade goes on from above, lists lose the nodes at which a field is missing; the lists that are read for
+/// that aren't read again.
 ///
 /// # Errors
 ///

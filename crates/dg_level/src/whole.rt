@@ -213,7 +213,7 @@ fn nodes_with<S: Snapshot, L: Ledger>(
                 &[],
                 kept,
                 vars,
-                &nodes,
+                nodes,
                 reads,
             ),
             Some(braces) => nodes_with_edge(
@@ -224,7 +224,7 @@ fn nodes_with<S: Snapshot, L: Ledger>(
                 braces.as_slice(),
                 kept,
                 vars,
-                &nodes,
+                nodes,
                 reads,
             ),
         },
@@ -241,11 +241,11 @@ fn nodes_with_edge<S: Snapshot, L: Ledger>(
     braces: &[QField],
     kept: &Item,
     vars: &Vars,
-    nodes: &Uids,
+    nodes: Uids,
     reads: &mut Steps<L>,
 ) -> Mem<With>
-    ensures nodes { IfOk result (λ with. with.nodes ≡ filter (kept_there (S.declared snap.now) (S.graph snap.now) vars.now.variables edge.now args.now braces.now (out-Item kept.now)) nodes.now) }
-    ensures left { (dirs : Items QDir) (fields : Option (Items QField)) → in_braces fields ≡ braces.now → IfOk result (λ with. IsLeft (S.declared snap.now) (S.graph snap.now) vars.now.variables (items.Edge edge.now args.now dirs fields) kept.now nodes.now with.left) }
+    ensures nodes { IfOk result (λ with. with.nodes ≡ filter (kept_there (S.declared snap.now) (S.graph snap.now) vars.now.variables edge.now args.now braces.now (out-Item kept.now)) nodes) }
+    ensures left { (dirs : Items QDir) (fields : Option (Items QField)) → in_braces fields ≡ braces.now → IfOk result (λ with. IsLeft (S.declared snap.now) (S.graph snap.now) vars.now.variables (items.Edge edge.now args.now dirs fields) kept.now nodes with.left) }
 {
     let Item::Edge {
         orders,
@@ -258,7 +258,7 @@ fn nodes_with_edge<S: Snapshot, L: Ledger>(
     let definition = snap.schema().lookup(edge.pred.as_str());
     let sort = sort_of(definition, edge.back);
     if !leads_to_nodes(sort) {
-        let valued = nodes_with_values(alloc, snap, definition, edge.pred.as_str(), nodes, reads)?;
+        let valued = nodes_with_values(alloc, snap, definition, edge.pred.as_str(), &nodes, reads)?;
         return Ok(with_nodes(valued));
     }
     let lists = lists_of(
@@ -275,10 +275,12 @@ fn nodes_with_edge<S: Snapshot, L: Ledger>(
     )?;
     let level = nodes_below(alloc, lists.as_slice())?;
     let below = whole_nodes(alloc, snap, braces, inner.as_slice(), vars, level, reads)?;
-    let leading = nodes_leading(alloc, nodes, lists.as_slice(), &below.nodes)?;
+    let leading = nodes_leading(alloc, &nodes, lists.as_slice(), &below.nodes)?;
     Ok(With {
         nodes: leading,
         left: Left::Nodes {
+            of: nodes,
+            lists: List::from_vec(lists),
             whole: below.nodes,
             inside: below.inside,
         },
@@ -363,7 +365,7 @@ fn whole_below<S: Snapshot, L: Ledger>(
     ensures inside { IsLeftIn (S.declared snap.now) (S.graph snap.now) vars.now.variables braces.now inner.now lists.now left → IfOk result (λ whole. AreLeft (S.declared snap.now) (S.graph snap.now) vars.now.variables braces.now inner.now whole.nodes whole.inside) }
 {
     match left {
-        Left::Nodes { whole, inside } => Ok(Whole {
+        Left::Nodes { whole, inside, .. } => Ok(Whole {
             nodes: whole,
             inside,
         }),
