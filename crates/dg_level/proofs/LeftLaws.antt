@@ -120,6 +120,14 @@ left_inside lists whole m h = each lists (sym (ascending_has (flat_map (λ l. l)
         by true e h rest = first (has nat_cmp whole m) (has nat_cmp l m) (sym (has_passed nat_cmp nat_order (has nat_cmp whole) l m) ∙ e)
         by false e h rest = rest h
 
+-- and of one list
+pub left_here : (list whole : List ℕ) (m : ℕ) → has nat_cmp (ascending nat_cmp (filter (has nat_cmp whole) list)) m ≡ true → has nat_cmp whole m ≡ true
+left_here list whole m h = first (has nat_cmp whole m) (has nat_cmp list m) (sym (has_passed nat_cmp nat_order (has nat_cmp whole) list m) ∙ (sym (ascending_has (filter (has nat_cmp whole) list) m) ∙ h))
+  where
+    first : (a b : Bool) → (a && b) ≡ true → a ≡ true
+    first true b e = refl
+    first false b e = absurd (cc)
+
 -- ---- what is known under items
 
 module _ (schema : List PredDef) (graph : List Triple) (vars : List Variable) where

@@ -1,11 +1,12 @@
 -- What is known of the nodes that a cascade leaves below a level.
 use Rattle.std.specs.Prelude.{◌≡◌, ℕ, Bool, true, List, [], ◌∷◌, Option, Some, map, flat_map, slice_get}
 use Rattle.std.specs.Ordering.{nat_cmp}
-use Rattle.dg_values.specs.Ascending.{has}
+use Rattle.dg_values.specs.Ascending.{ascending, has}
 use Rattle.dg_schema.specs.declared.definition.PredDef.{PredDef}
 use Rattle.dg_schema.specs.Definitions.{definition_of}
 use Rattle.dg_graph.specs.declared.change.Triple.{Triple}
 use Rattle.dg_parse.specs.declared.query.QArg.{QArg}
+use Rattle.dg_parse.specs.declared.query.QBlock.{QBlock}
 use Rattle.dg_parse.specs.declared.query.QDir.{QDir}
 use Rattle.dg_parse.specs.declared.query.QEdge.{QEdge}
 use Rattle.dg_parse.specs.declared.query.QField.{QField}
@@ -16,6 +17,7 @@ use Rattle.dg_check.specs.declared.parts.Filter.{Filter}
 use Rattle.dg_check.specs.declared.parts.Item.{Item}
 use Rattle.dg_check.specs.declared.parts.Item.TheVariants as kept
 use Rattle.dg_check.specs.declared.parts.OrderKey.{OrderKey}
+use Rattle.dg_check.specs.declared.parts.Parts.{Parts}
 use Rattle.dg_check.specs.declared.vars.Variable.{Variable}
 use Rattle.dg_level.specs.declared.left.Left.{Left}
 use Rattle.dg_level.specs.declared.left.Left.TheVariants as lefts
@@ -52,7 +54,11 @@ abbrev pub AreLeft : List PredDef → List Triple → List Variable → List QFi
 AreLeft schema graph vars fields kept level left =
     (i : ℕ) (q : QField) (k : Kept) (l : Left) → slice_get fields i ≡ Some q → slice_get kept i ≡ Some k → slice_get left i ≡ Some l → IsLeft schema graph vars q.item k.item level l
 
--- the same under an edge with such lists, by what stands in its braces and what is kept of it
+-- what is known under the fields of a block for the nodes of a list is so
+abbrev pub AreLeftAt : List PredDef → List Triple → List Variable → QBlock → Parts → List ℕ → List Left → Type 0
+AreLeftAt schema graph vars block kept list left = AreLeft schema graph vars block.fields kept.fields (ascending nat_cmp list) left
+
+-- what is known is so under an edge with such lists, by what stands in its braces and what is kept of it
 abbrev pub IsLeftBelow : List PredDef → List Triple → List Variable → (ℕ → List ℕ) → List QField → List Kept → List ℕ → Left → Type 0
 IsLeftBelow schema graph vars list braces inner level left =
     (of : List ℕ) (lists : List (List ℕ)) (whole : List ℕ) (inside : List Left) → left ≡ lefts.Nodes of lists whole inside

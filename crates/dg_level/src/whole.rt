@@ -319,8 +319,17 @@ fn lists_in(alloc: Global, lists: &[List<u64>], whole: &Uids) -> Mem<Vec<List<u6
     Ok(made)
 }
 
-/// The nodes of a list that remain: where a cascade drops nodes, those at which none of the fields is missing. The error is want
-/// of memory.
+/// A list without the nodes that a cascade drops, and what is known about those that are left.
+#[derive(Drop)]
+pub struct LeftList {
+    /// The list.
+    pub list: Vec<u64>,
+    /// What is known for its nodes under each field.
+    pub inside: List<Left>,
+}
+
+/// The nodes of a list that remain: where a cascade drops nodes, those at which none of the fields is missing. What is found out
+/// about them is answered too. The error is want of memory.
 pub fn left_list<S: Snapshot, L: Ledger>(
     alloc: Global,
     snap: &S,
@@ -330,15 +339,23 @@ pub fn left_list<S: Snapshot, L: Ledger>(
     list: Vec<u64>,
     vars: &Vars,
     reads: &mut Steps<L>,
-) -> Mem<Vec<u64>>
-    ensures { IfOk result (λ left. left.items ≡ remaining cascade (planned_there (S.declared snap.now) (S.graph snap.now) vars.now.variables braces.now inner.now) list.items) }
+) -> Mem<LeftList>
+    ensures list { IfOk result (λ left. left.list.items ≡ remaining cascade (planned_there (S.declared snap.now) (S.graph snap.now) vars.now.variables braces.now inner.now) list.items) }
+    ensures inside { IfOk result (λ left. AreLeft (S.declared snap.now) (S.graph snap.now) vars.now.variables braces.now inner.now (ascending nat_cmp left.list.items) left.inside) }
 {
     if !cascade {
-        return Ok(list);
+        return Ok(LeftList {
+            list,
+            inside: List::new(alloc),
+        });
     }
     let level = level_of(alloc, list.as_slice())?;
     let whole = whole_nodes(alloc, snap, braces, inner, vars, level, reads)?;
-    nodes_in(alloc, list.as_slice(), &whole.nodes)
+    let list = nodes_in(alloc, list.as_slice(), &whole.nodes)?;
+    Ok(LeftList {
+        list,
+        inside: whole.inside,
+    })
 }
 
 /// Lists of the nodes of a level, without the nodes that a cascade drops, and what is known about those that are left.
