@@ -139,6 +139,11 @@ def level_rows() -> Iterator[tuple[str, str]]:
     below = '{"friend":[{"name":"Cid"}]}'
     yield counted(f"{{ {head} {{ friend @filter(eq(ok, true)) {{ name }} }} }}", block(below, below), by_token=2, objects=2 + 2 + 1)
     yield counted(f"{{ {head} {{ friend (orderasc: age, first: 1) {{ name }} }} }}", block(below, below), by_token=2, objects=2 + 2 + 1)
+    yield "# With a cascade the edges are followed once too, where the block has it and where the first edge has it.", ""
+    below = f'{{"friend":[{",".join(uids(5, 6))}]}}'
+    below = f'{{"friend":[{below},{below}]}}'
+    yield counted(f"{{ {head} @cascade {{ friend {{ friend {{ uid }} }} }} }}", block(below, below), by_token=2, objects=2 + 2)
+    yield counted(f"{{ {head} {{ friend @cascade {{ friend {{ uid }} }} }} }}", block(below, below), by_token=2, objects=2 + 2)
     yield "# For a variable the edge is followed in a block that isn't shown; a block that is shown is run once more for its text.", ""
     query = '{ var(func: eq(name, ["Ann", "Bob"])) { name f as friend { name } } q(func: uid(f)) { name } }'
     yield counted(query, block('{"name":"Cid"}', '{"name":"Dan"}'), by_token=2, objects=2 + 2)
@@ -202,6 +207,23 @@ def ring_rows() -> Iterator[tuple[str, str]]:
     yield counted("{ q(func: uid(0x1)) { next (first: 2) { next (first: 1) { uid } } } }", shown, objects=1 + 2)
 
 
+def cascade_rows() -> Iterator[tuple[str, str]]:
+    """Cascades over the same graph, along ten lists of one node each."""
+    yield "# A cascade reads each of ten lists once, as if there were none: to find what is left, and what is shown reads none again. So it is", ""
+    yield "# where the block has it, with flat objects too, and where its first edge has it.", ""
+    yield "# Where nothing is left no list is read twice: 1, 30 and 30 lists, and the values of 30 nodes.", ""
+    below, shown = "uid", uids(1)[0]
+    for _ in range(10):
+        below = f"next (first: 1) {{ {below} }}"
+        shown = f'{{"next":[{shown}]}}'
+    yield counted(f"{{ q(func: uid(0x1)) @cascade {{ {below} }} }}", block(shown), objects=10)
+    edge = below.replace("(first: 1)", "(first: 1) @cascade", 1)
+    yield counted(f"{{ q(func: uid(0x1)) {{ {edge} }} }}", block(shown), objects=1 + 9)
+    flat = below.replace("uid", "u: uid")
+    yield counted(f"{{ q(func: uid(0x1)) @cascade @normalize {{ {flat} }} }}", block('{"u":"0x1"}'), objects=10)
+    yield counted("{ q(func: uid(0x1)) @cascade { next { next { next { none } } } } }", block(), objects=1 + 30 + 30 + 30)
+
+
 def rows() -> Iterator[tuple[str, str]]:
     yield "# Calls of each kind but `schema` that a query makes of a graph. Wanted: worked out by hand from the table at `root` of dg_funcs and", ""
     yield "# from what dg_level says of levels, as the comments below say.", ""
@@ -218,3 +240,4 @@ def rows() -> Iterator[tuple[str, str]]:
     yield root('eq(name, ["Ann", "Bob"])', 1, 2, by_token=2)
     yield root('between(name, "B", "D")', 2, 3, by_token_range=1, objects=2)
     yield from ring_rows()
+    yield from cascade_rows()

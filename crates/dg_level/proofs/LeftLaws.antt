@@ -1,5 +1,5 @@
 -- What is known of the nodes that a cascade leaves.
-use Rattle.std.proofs.Common.{◌≡◌, ℕ, zero, suc, ◌+◌, ◌<◌, ◌⊎◌, inl, inr, Bool, true, false, List, [], ◌∷◌, ◌++◌, map, flat_map, drop, length, get_or, slice_get, filter, Option, Some, Result, Ok, Err, IfOk, refl, sym, ap, subst, ◌∙◌, arith}
+use Rattle.std.proofs.Common.{◌≡◌, ℕ, zero, suc, ◌+◌, ◌<◌, ◌⊎◌, inl, inr, Bool, true, false, List, [], ◌∷◌, ◌++◌, map, flat_map, drop, length, get_or, slice_get, filter, Option, Some, Result, Ok, Err, IfOk, IfSome, refl, sym, ap, subst, ◌∙◌, arith}
 use Rattle.std.specs.Prelude.{◌&&◌, ◌||◌}
 use Rattle.std.specs.Ordering.{nat_cmp, is_eq}
 use Rattle.std.proofs.lemmas.Option.{slice_get_read}
@@ -30,13 +30,17 @@ use Rattle.dg_level.specs.declared.left.Left.TheViews.{out-Left}
 use Rattle.dg_level.specs.Shown.{sort_of, in_braces}
 use Rattle.dg_level.specs.Planned.{is_single, planned_there}
 use Rattle.dg_level.specs.Levels.{list_of}
-use Rattle.dg_level.specs.Left.{first_left, after_first, TellsWhole, TellsIn, IsLeft, unknown, nodes, AreLeft, IsLeftBelow, IsLeftOf, IsLeftIn}
+use Rattle.dg_level.specs.Left.{first_left, after_first, TellsWhole, TellsIn, IsLeft, unknown, nodes, AreLeft, IsLeftBelow, KnowsLists, IsLeftOf, IsLeftIn}
 use Rattle.dg_level.proofs.ListLaws.{ascending_has, map_within}
 
 -- what follows of an answer follows where there is one
 pub if_ok : {A E : Type 0} (r : Result A E) (P Q : A → Type 0) → ((x : A) → P x → Q x) → IfOk r P → IfOk r Q
 if_ok (Ok x) P Q f h = f x h
 if_ok (Err e) P Q f h = tt
+
+-- and where there is something
+pub if_some : {A : Type 0} (o : Option A) (x : A) (P : A → Type 0) → o ≡ Some x → IfSome o P → P x
+if_some {A} o x P is h = subst (λ (p : Option A). IfSome p P) is h
 
 -- ---- nodes of lists
 
@@ -116,13 +120,21 @@ left_inside lists whole m h = each lists (sym (ascending_has (flat_map (λ l. l)
         by true e h rest = first (has nat_cmp whole m) (has nat_cmp l m) (sym (has_passed nat_cmp nat_order (has nat_cmp whole) l m) ∙ e)
         by false e h rest = rest h
 
+-- and of one list
+pub left_here : (list whole : List ℕ) (m : ℕ) → has nat_cmp (ascending nat_cmp (filter (has nat_cmp whole) list)) m ≡ true → has nat_cmp whole m ≡ true
+left_here list whole m h = first (has nat_cmp whole m) (has nat_cmp list m) (sym (has_passed nat_cmp nat_order (has nat_cmp whole) list m) ∙ (sym (ascending_has (filter (has nat_cmp whole) list) m) ∙ h))
+  where
+    first : (a b : Bool) → (a && b) ≡ true → a ≡ true
+    first true b e = refl
+    first false b e = absurd (cc)
+
 -- ---- what is known under items
 
 module _ (schema : List PredDef) (graph : List Triple) (vars : List Variable) where
   -- it is known for fewer nodes too
   pub fewer : (q : QItem) (k : Item) (level more : List ℕ) (left : Left) → ((n : ℕ) → has nat_cmp level n ≡ true → has nat_cmp more n ≡ true) → IsLeft schema graph vars q k more left → IsLeft schema graph vars q k level left
   fewer _ _ level more _ sub (unknown q k _) = unknown q k level
-  fewer _ _ level more _ sub (nodes e args dirs braces orders filters inner _ whole inside tells are) = nodes e args dirs braces orders filters inner level whole inside (λ n m h k. tells n m (sub n h) k) are
+  fewer _ _ level more _ sub (nodes e args dirs braces orders filters inner _ of lists whole inside tells are read) = nodes e args dirs braces orders filters inner level of lists whole inside (λ n m h k. tells n m (sub n h) k) are read
 
   pub all_fewer : (fields : List QField) (kept : List Kept) (level more : List ℕ) (left : List Left) → ((n : ℕ) → has nat_cmp level n ≡ true → has nat_cmp more n ≡ true) → AreLeft schema graph vars fields kept more left → AreLeft schema graph vars fields kept level left
   all_fewer fields kept level more left sub are i q k l f p h = fewer q.item k.item level more l sub (are i q k l f p h)
@@ -136,18 +148,20 @@ module _ (schema : List PredDef) (graph : List Triple) (vars : List Variable) wh
   -- what is known under an edge, of which one knows what it is and what is kept of it
   pub of_edge : (q : QItem) (k : Item) (level : List ℕ) (left : Left) → IsLeft schema graph vars q k level left → (e : QEdge) (args : List QArg) (dirs : List QDir) (braces : List QField) → q ≡ items.Edge e args dirs (Some braces)
       → IsLeftOf schema graph vars (is_single (sort_of (definition_of schema e.pred) e.back)) e args braces k level left
-  of_edge _ _ level _ (unknown q k _) e args dirs braces is orders filters inner kept_is whole inside left_is =
-      let f : Left-F.Unknown ≡ Left-F.Nodes whole inside = sym lefts.outs-Unknown ∙ (ap out-Left left_is ∙ lefts.outs-Nodes whole inside) in absurd (cc)
-  of_edge _ _ level _ (nodes e1 args1 dirs1 braces1 orders1 filters1 inner1 _ whole1 inside1 tells are) e args dirs braces is orders filters inner kept_is whole inside left_is =
+  of_edge _ _ level _ (unknown q k _) e args dirs braces is orders filters inner kept_is of lists whole inside left_is =
+      let f : Left-F.Unknown ≡ Left-F.Nodes of lists whole inside = sym lefts.outs-Unknown ∙ (ap out-Left left_is ∙ lefts.outs-Nodes of lists whole inside) in absurd (cc)
+  of_edge _ _ level _ (nodes e1 args1 dirs1 braces1 orders1 filters1 inner1 _ of1 lists1 whole1 inside1 tells are read) e args dirs braces is orders filters inner kept_is of lists whole inside left_is =
       let f : QItem-F.Edge e1 args1 dirs1 braces1 ≡ QItem-F.Edge e args dirs (Some braces) = sym (items.outs-Edge e1 args1 dirs1 braces1) ∙ (ap out-QItem is ∙ items.outs-Edge e args dirs (Some braces)) in
       let g : Item-F.Edge orders1 filters1 inner1 ≡ Item-F.Edge orders filters inner = sym (kept.outs-Edge orders1 filters1 inner1) ∙ (ap out-Item kept_is ∙ kept.outs-Edge orders filters inner) in
-      let h : Left-F.Nodes whole1 inside1 ≡ Left-F.Nodes whole inside = sym (lefts.outs-Nodes whole1 inside1) ∙ (ap out-Left left_is ∙ lefts.outs-Nodes whole inside) in
+      let h : Left-F.Nodes of1 lists1 whole1 inside1 ≡ Left-F.Nodes of lists whole inside = sym (lefts.outs-Nodes of1 lists1 whole1 inside1) ∙ (ap out-Left left_is ∙ lefts.outs-Nodes of lists whole inside) in
       let same_e : e1 ≡ e = cc in
       let same_args : args1 ≡ args = cc in
       let same_braces : braces1 ≡ Some braces = cc in
       let same_orders : orders1 ≡ orders = cc in
       let same_filters : filters1 ≡ filters = cc in
       let same_inner : inner1 ≡ inner = cc in
+      let same_of : of1 ≡ of = cc in
+      let same_lists : lists1 ≡ lists = cc in
       let same_whole : whole1 ≡ whole = cc in
       let same_inside : inside1 ≡ inside = cc in (
         λ n m a b.
@@ -157,23 +171,29 @@ module _ (schema : List PredDef) (graph : List Triple) (vars : List Variable) wh
         λ i q k l a b c.
             subst (λ (w : List ℕ). IsLeft schema graph vars q.item k.item w l) same_whole
             (are i q k l ((λ j. slice_get (in_braces (same_braces j)) i) ∙ a) ((λ j. slice_get (same_inner j) i) ∙ b) ((λ j. slice_get (same_inside j) i) ∙ c)),
+        sym same_lists ∙ (read ∙ (λ i. map (list_of graph vars (same_e i) (same_args i) (same_orders i) (same_filters i) (is_single (sort_of (definition_of schema (same_e i).pred) (same_e i).back))) (same_of i))),
       )
 
   -- what is learned under an edge
-  pub learned : (e : QEdge) (args : List QArg) (dirs : List QDir) (fields : Option (List QField)) (braces : List QField) (k : Item) (orders : List OrderKey) (filters : List Filter) (inner : List Kept) (ns level whole : List ℕ) (inside : List Left)
+  pub learned : (e : QEdge) (args : List QArg) (dirs : List QDir) (fields : Option (List QField)) (braces : List QField) (k : Item) (orders : List OrderKey) (filters : List Filter) (inner : List Kept) (ns : List ℕ) (lists : List (List ℕ)) (level whole : List ℕ) (inside : List Left)
       → in_braces fields ≡ braces → k ≡ kept.Edge orders filters inner
+      → lists ≡ map (list_of graph vars e args orders filters (is_single (sort_of (definition_of schema e.pred) e.back))) ns
       → level ≡ ascending nat_cmp (flat_map (list_of graph vars e args orders filters (is_single (sort_of (definition_of schema e.pred) e.back))) ns) → whole ≡ filter (planned_there schema graph vars braces inner) level
-      → AreLeft schema graph vars braces inner whole inside → IsLeft schema graph vars (items.Edge e args dirs fields) k ns (lefts.Nodes whole inside)
-  learned e args dirs fields braces k orders filters inner ns level whole inside in_them is level_is made are =
-      subst (λ (one : Item). IsLeft schema graph vars (items.Edge e args dirs fields) one ns (lefts.Nodes whole inside)) (sym is)
-      (nodes e args dirs fields orders filters inner ns whole inside
+      → AreLeft schema graph vars braces inner whole inside → IsLeft schema graph vars (items.Edge e args dirs fields) k ns (lefts.Nodes ns lists whole inside)
+  learned e args dirs fields braces k orders filters inner ns lists level whole inside in_them is read level_is made are =
+      subst (λ (one : Item). IsLeft schema graph vars (items.Edge e args dirs fields) one ns (lefts.Nodes ns lists whole inside)) (sym is)
+      (nodes e args dirs fields orders filters inner ns ns lists whole inside
       (passed_whole (planned_there schema graph vars (in_braces fields) inner) (list_of graph vars e args orders filters (is_single (sort_of (definition_of schema e.pred) e.back))) ns level whole level_is (made ∙ (λ i. filter (planned_there schema graph vars (sym in_them i) inner) level)))
-      (λ i q k l a b c. are i q k l ((λ j. slice_get (sym in_them j) i) ∙ a) b c))
+      (λ i q k l a b c. are i q k l ((λ j. slice_get (sym in_them j) i) ∙ a) b c) read)
 
   -- below an edge, by the lists of the nodes
   pub in_these : (list : ℕ → List ℕ) (braces : List QField) (inner : List Kept) (level : List ℕ) (lists : List (List ℕ)) (left : Left) → lists ≡ map list level → IsLeftBelow schema graph vars list braces inner level left → IsLeftIn schema graph vars braces inner lists left
-  in_these list braces inner level lists left are known whole inside is =
-      let both = known whole inside is in (told_in (planned_there schema graph vars braces inner) list level whole lists are both.0, both.1)
+  in_these list braces inner level lists left are known of read whole inside is =
+      let both = known of read whole inside is in (told_in (planned_there schema graph vars braces inner) list level whole lists are both.0, both.1)
+
+  -- what lists are known there
+  pub knows_lists : (list : ℕ → List ℕ) (braces : List QField) (inner : List Kept) (level : List ℕ) (left : Left) → IsLeftBelow schema graph vars list braces inner level left → KnowsLists list left
+  knows_lists list braces inner level left known of lists whole inside is = (known of lists whole inside is).2
 
   -- ---- fields one after another
 

@@ -1,5 +1,5 @@
 // The list of a block, and the array of what its nodes show.
-ghost use Rattle.std.specs.Prelude.{◌≡◌, ◌<◌, ◌≤◌, ◌∷◌, [], List, length, IfOk, IsErrOf};
+ghost use Rattle.std.specs.Prelude.{◌≡◌, ◌<◌, ◌≤◌, ◌∷◌, [], List as Items, length, IfOk, IsErrOf};
 ghost use Rattle.dg_graph.specs.Graphs.{IsLawful};
 ghost use Rattle.dg_check.specs.Parts.{IsBlockOf};
 ghost use Rattle.dg_check.specs.Variables.{Definition};
@@ -8,18 +8,21 @@ ghost use Rattle.dg_shape.specs.Orders.{ordered, page};
 ghost use Rattle.dg_tree.specs.Texts.{tree_text};
 ghost use Rattle.dg_tree.specs.declared.tree.Tree.TheVariants as trees;
 ghost use Rattle.dg_level.specs.Blocks.{nodes_of_block, left_of_block, nested_shown, recursed_shown, plain_shown, array_shown};
+ghost use Rattle.dg_level.specs.Left.{AreLeftAt};
 ghost use Rattle.dg_level.specs.Planned.{planned_keys};
 ghost use Rattle.dg_level.specs.PlannedBlocks.{planned_root, planned_nodes};
 
 use crate::directives::{cascades, normalizes};
 use crate::flat_arrays::flat_array;
+use crate::Rows;
 use crate::keys::counts_of;
+use crate::left::Left;
+use crate::levels::known_rows;
 use crate::lists::passing_each;
 use crate::order_keys::{key_values, keys_over};
 use crate::recursions::{Recursion, recursed_rows, recursion_in};
-use crate::whole::{left_list, level_of};
+use crate::whole::{LeftList, left_list, level_of};
 use crate::writing::number_objects;
-use crate::{Rows, rows_of};
 use dg_check::{Func, OrderKey, Parts, Vars};
 use dg_funcs::{meanings, root};
 use dg_graph::Snapshot;
@@ -27,7 +30,7 @@ use dg_parse::{QArg, QBlock};
 use dg_shape::{order, page};
 use dg_tree::TreeFault;
 use dg_uids::Uids;
-use dg_values::{Mem, OutOfMemory, Steps};
+use dg_values::{List, Mem, OutOfMemory, Steps};
 use std::alloc::Global;
 use std::sync::ledger::Ledger;
 
@@ -100,15 +103,15 @@ pub fn nodes_of<S: Snapshot, L: Ledger>(
     vars: &Vars,
     reads: &mut Steps<L>,
 ) -> Mem<Vec<u64>>
-    ensures { (ds : List Definition) → IsLawful (S.declared snap.now) (S.graph snap.now) → AreOfKind ds vars.now.variables → IsBlockOf (S.declared snap.now) ds block.now kept.now
+    ensures { (ds : Items Definition) → IsLawful (S.declared snap.now) (S.graph snap.now) → AreOfKind ds vars.now.variables → IsBlockOf (S.declared snap.now) ds block.now kept.now
         → IfOk result (λ list. list.items ≡ nodes_of_block (S.graph snap.now) ds vars.now.variables block.now) }
 {
     meanings();
     planned_nodes(alloc, snap, block.args.as_slice(), kept, vars, reads)
 }
 
-/// The nodes of a block's list that remain: where the block has a cascade, those at which none of its fields is missing. The error
-/// is want of memory.
+/// The nodes of a block's list that remain: where the block has a cascade, those at which none of its fields is missing, and what is
+/// found out about them. The error is want of memory.
 pub fn left_of<S: Snapshot, L: Ledger>(
     alloc: Global,
     snap: &S,
@@ -117,9 +120,10 @@ pub fn left_of<S: Snapshot, L: Ledger>(
     vars: &Vars,
     list: Vec<u64>,
     reads: &mut Steps<L>,
-) -> Mem<Vec<u64>>
-    ensures { (ds : List Definition) → IsLawful (S.declared snap.now) (S.graph snap.now) → AreOfKind ds vars.now.variables → IsBlockOf (S.declared snap.now) ds block.now kept.now
-        → IfOk result (λ left. left.items ≡ left_of_block (S.declared snap.now) (S.graph snap.now) ds vars.now.variables block.now list.items) }
+) -> Mem<LeftList>
+    ensures list { (ds : Items Definition) → IsLawful (S.declared snap.now) (S.graph snap.now) → AreOfKind ds vars.now.variables → IsBlockOf (S.declared snap.now) ds block.now kept.now
+        → IfOk result (λ left. left.list.items ≡ left_of_block (S.declared snap.now) (S.graph snap.now) ds vars.now.variables block.now list.items) }
+    ensures inside { IfOk result (λ left. AreLeftAt (S.declared snap.now) (S.graph snap.now) vars.now.variables block.now kept.now left.list.items left.inside) }
 {
     meanings();
     left_list(
@@ -142,16 +146,17 @@ fn nested_array<S: Snapshot, L: Ledger>(
     kept: &Parts,
     vars: &Vars,
     list: &[u64],
+    left: List<Left>,
     reads: &mut Steps<L>,
 ) -> Result<Rows, TreeFault>
-    ensures ok { (ds : List Definition) → IsLawful (S.declared snap.now) (S.graph snap.now) → AreOfKind ds vars.now.variables → IsBlockOf (S.declared snap.now) ds block.now kept.now
-        → IfOk result (λ rows. rows.rows ≡ tree_text (trees.Array (nested_shown (S.declared snap.now) (S.graph snap.now) ds vars.now.variables block.now list.now)) ∷ []) }
-    ensures too_large { (ds : List Definition) → IsLawful (S.declared snap.now) (S.graph snap.now) → AreOfKind ds vars.now.variables → IsBlockOf (S.declared snap.now) ds block.now kept.now
-        → IsErrOf result TreeFault.TooLarge → 16777216 < length (tree_text (trees.Array (nested_shown (S.declared snap.now) (S.graph snap.now) ds vars.now.variables block.now list.now))) }
+    ensures ok { (ds : Items Definition) → IsLawful (S.declared snap.now) (S.graph snap.now) → AreOfKind ds vars.now.variables → IsBlockOf (S.declared snap.now) ds block.now kept.now
+        → AreLeftAt (S.declared snap.now) (S.graph snap.now) vars.now.variables block.now kept.now list.now left → IfOk result (λ rows. rows.rows ≡ tree_text (trees.Array (nested_shown (S.declared snap.now) (S.graph snap.now) ds vars.now.variables block.now list.now)) ∷ []) }
+    ensures too_large { (ds : Items Definition) → IsLawful (S.declared snap.now) (S.graph snap.now) → AreOfKind ds vars.now.variables → IsBlockOf (S.declared snap.now) ds block.now kept.now
+        → AreLeftAt (S.declared snap.now) (S.graph snap.now) vars.now.variables block.now kept.now list.now left → IsErrOf result TreeFault.TooLarge → 16777216 < length (tree_text (trees.Array (nested_shown (S.declared snap.now) (S.graph snap.now) ds vars.now.variables block.now list.now))) }
 {
     let fields = block.fields.as_slice();
     let level = level_of(alloc, list)?;
-    let below = rows_of(
+    let below = known_rows(
         alloc,
         snap,
         MOST,
@@ -160,6 +165,7 @@ fn nested_array<S: Snapshot, L: Ledger>(
         kept.fields.as_slice(),
         vars,
         &level,
+        left,
         reads,
     )?;
     let counts = counts_of(alloc, fields)?;
@@ -183,9 +189,9 @@ fn recursed_array<S: Snapshot, L: Ledger>(
 ) -> Result<Rows, TreeFault>
     requires least { 1 ≤ recursion.depth }
     requires most { recursion.depth ≤ 32 }
-    ensures ok { (ds : List Definition) → IsLawful (S.declared snap.now) (S.graph snap.now) → AreOfKind ds vars.now.variables → IsBlockOf (S.declared snap.now) ds block.now kept.now
+    ensures ok { (ds : Items Definition) → IsLawful (S.declared snap.now) (S.graph snap.now) → AreOfKind ds vars.now.variables → IsBlockOf (S.declared snap.now) ds block.now kept.now
         → IfOk result (λ rows. rows.rows ≡ tree_text (trees.Array (recursed_shown (S.declared snap.now) (S.graph snap.now) ds vars.now.variables block.now recursion list.now)) ∷ []) }
-    ensures too_large { (ds : List Definition) → IsLawful (S.declared snap.now) (S.graph snap.now) → AreOfKind ds vars.now.variables → IsBlockOf (S.declared snap.now) ds block.now kept.now
+    ensures too_large { (ds : Items Definition) → IsLawful (S.declared snap.now) (S.graph snap.now) → AreOfKind ds vars.now.variables → IsBlockOf (S.declared snap.now) ds block.now kept.now
         → IsErrOf result TreeFault.TooLarge → 16777216 < length (tree_text (trees.Array (recursed_shown (S.declared snap.now) (S.graph snap.now) ds vars.now.variables block.now recursion list.now))) }
 {
     let fields = block.fields.as_slice();
@@ -215,17 +221,18 @@ fn plain_array<S: Snapshot, L: Ledger>(
     kept: &Parts,
     vars: &Vars,
     list: &[u64],
+    left: List<Left>,
     reads: &mut Steps<L>,
 ) -> Result<Rows, TreeFault>
-    ensures ok { (ds : List Definition) → IsLawful (S.declared snap.now) (S.graph snap.now) → AreOfKind ds vars.now.variables → IsBlockOf (S.declared snap.now) ds block.now kept.now
-        → IfOk result (λ rows. rows.rows ≡ tree_text (trees.Array (plain_shown (S.declared snap.now) (S.graph snap.now) ds vars.now.variables block.now list.now)) ∷ []) }
-    ensures too_large { (ds : List Definition) → IsLawful (S.declared snap.now) (S.graph snap.now) → AreOfKind ds vars.now.variables → IsBlockOf (S.declared snap.now) ds block.now kept.now
-        → IsErrOf result TreeFault.TooLarge → 16777216 < length (tree_text (trees.Array (plain_shown (S.declared snap.now) (S.graph snap.now) ds vars.now.variables block.now list.now))) }
+    ensures ok { (ds : Items Definition) → IsLawful (S.declared snap.now) (S.graph snap.now) → AreOfKind ds vars.now.variables → IsBlockOf (S.declared snap.now) ds block.now kept.now
+        → AreLeftAt (S.declared snap.now) (S.graph snap.now) vars.now.variables block.now kept.now list.now left → IfOk result (λ rows. rows.rows ≡ tree_text (trees.Array (plain_shown (S.declared snap.now) (S.graph snap.now) ds vars.now.variables block.now list.now)) ∷ []) }
+    ensures too_large { (ds : Items Definition) → IsLawful (S.declared snap.now) (S.graph snap.now) → AreOfKind ds vars.now.variables → IsBlockOf (S.declared snap.now) ds block.now kept.now
+        → AreLeftAt (S.declared snap.now) (S.graph snap.now) vars.now.variables block.now kept.now list.now left → IsErrOf result TreeFault.TooLarge → 16777216 < length (tree_text (trees.Array (plain_shown (S.declared snap.now) (S.graph snap.now) ds vars.now.variables block.now list.now))) }
 {
     if normalizes(block.dirs.as_slice()) {
-        return flat_array(alloc, snap, block, kept, vars, list, reads);
+        return flat_array(alloc, snap, block, kept, vars, list, left, reads);
     }
-    nested_array(alloc, snap, block, kept, vars, list, reads)
+    nested_array(alloc, snap, block, kept, vars, list, left, reads)
 }
 
 /// The array of what the nodes of a list show, as the one row: what they unfold to where the block has a recursion, and flat
@@ -239,15 +246,16 @@ pub fn array_shown<S: Snapshot, L: Ledger>(
     kept: &Parts,
     vars: &Vars,
     list: &[u64],
+    left: List<Left>,
     reads: &mut Steps<L>,
 ) -> Result<Rows, TreeFault>
-    ensures ok { (ds : List Definition) → IsLawful (S.declared snap.now) (S.graph snap.now) → AreOfKind ds vars.now.variables → IsBlockOf (S.declared snap.now) ds block.now kept.now
-        → IfOk result (λ rows. rows.rows ≡ tree_text (array_shown (S.declared snap.now) (S.graph snap.now) ds vars.now.variables block.now list.now) ∷ []) }
-    ensures too_large { (ds : List Definition) → IsLawful (S.declared snap.now) (S.graph snap.now) → AreOfKind ds vars.now.variables → IsBlockOf (S.declared snap.now) ds block.now kept.now
-        → IsErrOf result TreeFault.TooLarge → 16777216 < length (tree_text (array_shown (S.declared snap.now) (S.graph snap.now) ds vars.now.variables block.now list.now)) }
+    ensures ok { (ds : Items Definition) → IsLawful (S.declared snap.now) (S.graph snap.now) → AreOfKind ds vars.now.variables → IsBlockOf (S.declared snap.now) ds block.now kept.now
+        → AreLeftAt (S.declared snap.now) (S.graph snap.now) vars.now.variables block.now kept.now list.now left → IfOk result (λ rows. rows.rows ≡ tree_text (array_shown (S.declared snap.now) (S.graph snap.now) ds vars.now.variables block.now list.now) ∷ []) }
+    ensures too_large { (ds : Items Definition) → IsLawful (S.declared snap.now) (S.graph snap.now) → AreOfKind ds vars.now.variables → IsBlockOf (S.declared snap.now) ds block.now kept.now
+        → AreLeftAt (S.declared snap.now) (S.graph snap.now) vars.now.variables block.now kept.now list.now left → IsErrOf result TreeFault.TooLarge → 16777216 < length (tree_text (array_shown (S.declared snap.now) (S.graph snap.now) ds vars.now.variables block.now list.now)) }
 {
     match recursion_in(block.dirs.as_slice()) {
-        None => plain_array(alloc, snap, block, kept, vars, list, reads),
+        None => plain_array(alloc, snap, block, kept, vars, list, left, reads),
         Some(recursion) => {
             recursed_array(alloc, snap, block, kept, recursion, vars, list, reads)
         }

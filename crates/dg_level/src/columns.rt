@@ -15,8 +15,9 @@ use crate::Rows;
 use crate::column::{Below, Column, Content, held_by, shows_none};
 use crate::directives::cascades;
 use crate::keys::{counts_of, key_text};
+use crate::known::lists_under;
 use crate::left::{Left, next_left};
-use crate::lists::{lists_of, nodes_below};
+use crate::lists::nodes_below;
 use crate::sorts::{Sort, is_single, leads_to_nodes, sort_of};
 use crate::whole::left_lists;
 use crate::writing::written;
@@ -98,7 +99,7 @@ pub fn value_content(kept: &Item) -> Content
 /// What the nodes of a level show, each in its own row. Each list is read once for each node of a level and each field, and
 /// the row of a node of the level below is made once, whatever number of nodes lead to it. Where a cascade goes on from above, or
 /// an edge begins one, lists lose the nodes at which a field is missing, before anything is made of these. For that the lists below
-/// are read once more where a cascade begins; what is found out then is known in all levels below.
+/// are read where a cascade begins; they are known in all levels below then, and aren't read again.
 ///
 /// # Errors
 ///
@@ -337,8 +338,8 @@ fn below_of<S: Snapshot, L: Ledger>(
         → IsErrOf result TreeFault.TooLarge → limit < bytes_of (below_trees (S.declared snap.now) (S.graph snap.now) vars.now.variables edge.now args.now orders.now filters.now braces.now inner.now single cascade) nodes.now }
 {
     let counts = counts_of(alloc, braces)?;
-    let lists = lists_of(
-        alloc, snap, single, edge, args, orders, filters, vars, nodes, reads,
+    let lists = lists_under(
+        alloc, snap, single, edge, args, orders, filters, vars, nodes, &left, reads,
     )?;
     let made = left_lists(
         alloc, snap, cascade, braces, inner, lists, vars, left, reads,

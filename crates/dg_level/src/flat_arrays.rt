@@ -9,12 +9,14 @@ ghost use Rattle.dg_tree.specs.Texts.{tree_text};
 ghost use Rattle.dg_level.specs.Shown.{cascades, objects_at};
 ghost use Rattle.dg_level.specs.Blocks.{flat_shown};
 ghost use Rattle.dg_level.specs.FlatLevels.{weight_of};
+ghost use Rattle.dg_level.specs.Left.{AreLeft, AreLeftAt};
 
 use crate::Rows;
 use crate::blocks::MOST;
 use crate::directives::cascades;
 use crate::flat_levels::level_flats;
 use crate::flat_rows::Flats;
+use crate::left::Left;
 use crate::whole::level_of;
 use dg_check::{Parts, Vars};
 use dg_funcs::meanings;
@@ -36,12 +38,13 @@ fn block_flats<S: Snapshot, L: Ledger>(
     kept: &Parts,
     vars: &Vars,
     level: &Uids,
+    left: List<Left>,
     reads: &mut Steps<L>,
 ) -> Result<Vec<Flats>, TreeFault>
     ensures flats { (ds : Items Definition) → IsLawful (S.declared snap.now) (S.graph snap.now) → AreOfKind ds vars.now.variables → IsBlockOf (S.declared snap.now) ds block.now kept.now
-        → IfOk result (λ v. v.items ≡ map (objects_at (S.declared snap.now) (S.graph snap.now) ds vars.now.variables (cascades false block.now.dirs) block.now.fields) level.now) }
+        → AreLeft (S.declared snap.now) (S.graph snap.now) vars.now.variables block.now.fields kept.now.fields level.now left → IfOk result (λ v. v.items ≡ map (objects_at (S.declared snap.now) (S.graph snap.now) ds vars.now.variables (cascades false block.now.dirs) block.now.fields) level.now) }
     ensures too_large { (ds : Items Definition) → IsLawful (S.declared snap.now) (S.graph snap.now) → AreOfKind ds vars.now.variables → IsBlockOf (S.declared snap.now) ds block.now kept.now
-        → IsErrOf result TreeFault.TooLarge → 16777216 < weight_of (objects_at (S.declared snap.now) (S.graph snap.now) ds vars.now.variables (cascades false block.now.dirs) block.now.fields) level.now }
+        → AreLeft (S.declared snap.now) (S.graph snap.now) vars.now.variables block.now.fields kept.now.fields level.now left → IsErrOf result TreeFault.TooLarge → 16777216 < weight_of (objects_at (S.declared snap.now) (S.graph snap.now) ds vars.now.variables (cascades false block.now.dirs) block.now.fields) level.now }
 {
     meanings();
     level_flats(
@@ -52,7 +55,7 @@ fn block_flats<S: Snapshot, L: Ledger>(
         kept.fields.as_slice(),
         vars,
         level.as_slice(),
-        List::new(alloc),
+        left,
         reads,
     )
 }
@@ -70,15 +73,16 @@ pub fn flat_array<S: Snapshot, L: Ledger>(
     kept: &Parts,
     vars: &Vars,
     list: &[u64],
+    left: List<Left>,
     reads: &mut Steps<L>,
 ) -> Result<Rows, TreeFault>
     ensures ok { (ds : Items Definition) → IsLawful (S.declared snap.now) (S.graph snap.now) → AreOfKind ds vars.now.variables → IsBlockOf (S.declared snap.now) ds block.now kept.now
-        → IfOk result (λ rows. rows.rows ≡ tree_text (trees.Array (flat_shown (S.declared snap.now) (S.graph snap.now) ds vars.now.variables block.now list.now)) ∷ []) }
+        → AreLeftAt (S.declared snap.now) (S.graph snap.now) vars.now.variables block.now kept.now list.now left → IfOk result (λ rows. rows.rows ≡ tree_text (trees.Array (flat_shown (S.declared snap.now) (S.graph snap.now) ds vars.now.variables block.now list.now)) ∷ []) }
     ensures too_large { (ds : Items Definition) → IsLawful (S.declared snap.now) (S.graph snap.now) → AreOfKind ds vars.now.variables → IsBlockOf (S.declared snap.now) ds block.now kept.now
-        → IsErrOf result TreeFault.TooLarge → 16777216 < length (tree_text (trees.Array (flat_shown (S.declared snap.now) (S.graph snap.now) ds vars.now.variables block.now list.now))) }
+        → AreLeftAt (S.declared snap.now) (S.graph snap.now) vars.now.variables block.now kept.now list.now left → IsErrOf result TreeFault.TooLarge → 16777216 < length (tree_text (trees.Array (flat_shown (S.declared snap.now) (S.graph snap.now) ds vars.now.variables block.now list.now))) }
 {
     let level = level_of(alloc, list)?;
-    let below = block_flats(alloc, snap, block, kept, vars, &level, reads)?;
+    let below = block_flats(alloc, snap, block, kept, vars, &level, left, reads)?;
     let mut array = Rows::within(alloc, MOST);
     array.flat_array(list, &level, below.as_slice())?;
     array.close()?;

@@ -14,8 +14,9 @@ use crate::directives::cascades;
 use crate::flat_each::{filled_each, one_each, times_each};
 use crate::flat_own::behind_own;
 use crate::flat_rows::Flats;
+use crate::known::lists_under;
 use crate::left::{Left, next_left};
-use crate::lists::{lists_of, nodes_below};
+use crate::lists::nodes_below;
 use crate::sorts::{Sort, is_single, leads_to_nodes, sort_of};
 use crate::whole::left_lists;
 use dg_check::{Field, Filter, Item, OrderKey, Vars};
@@ -282,8 +283,8 @@ fn behind_nodes<S: Snapshot, L: Ledger>(
         → (g : FlatsOf) → made.items ≡ map g nodes.now → ((n : ℕ) → has_object (g n) ≡ true)
         → IsErrOf result TreeFault.TooLarge → 16777216 < weight_of (λ n. times (g n) (list_flats (S.declared snap.now) (S.graph snap.now) vars.now.variables edge.now args.now orders.now filters.now braces.now inner.now single cascade n)) nodes.now }
 {
-    let lists = lists_of(
-        alloc, snap, single, edge, args, orders, filters, vars, nodes, reads,
+    let lists = lists_under(
+        alloc, snap, single, edge, args, orders, filters, vars, nodes, &left, reads,
     )?;
     let from = left_lists(
         alloc, snap, cascade, braces, inner, lists, vars, left, reads,

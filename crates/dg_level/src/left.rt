@@ -15,6 +15,10 @@ pub enum Left {
     Unknown,
     /// Of an edge.
     Nodes {
+        /// Nodes whose lists were read.
+        of: Uids,
+        /// The list of each of them, in their order.
+        lists: List<List<u64>>,
         /// Those nodes of the lists at which none of the fields in its braces is missing.
         whole: Uids,
         /// The same of each of these fields in turn, for those nodes.

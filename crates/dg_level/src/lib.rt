@@ -22,6 +22,7 @@ mod flats;
 mod folds;
 mod given;
 mod keys;
+mod known;
 mod laws;
 mod left;
 mod levels;

@@ -10,6 +10,7 @@ ghost use Rattle.dg_tree.specs.declared.tree.Tree.TheVariants as trees;
 ghost use Rattle.dg_tree.specs.Texts.{field_text, answer_text};
 ghost use Rattle.dg_level.specs.Aggregates.{aggregates_shown, sums_beyond};
 ghost use Rattle.dg_level.specs.Blocks.{is_hidden, nodes_shown, block_tree, block_shown, blocks_shown};
+ghost use Rattle.dg_level.specs.Left.{AreLeftAt};
 ghost use Rattle.dg_level.specs.Meaning.{defined_in, variables_of, first_name, overflow_of, answer_of};
 ghost use Rattle.dg_level.specs.Parts.{parts_text, has_parts};
 ghost use Rattle.dg_level.specs.Shown.{under};
@@ -18,6 +19,7 @@ use crate::aggregates::{push_aggregates, sum_beyond};
 use crate::arrays::comma_behind;
 use crate::blocks::{array_shown, left_of, nodes_of};
 use crate::folds::Folds;
+use crate::left::Left;
 use crate::variables::variables_in_order;
 use crate::{RunFault, any_order_serves};
 use dg_check::{Parts, Plan, Vars};
@@ -87,14 +89,15 @@ fn push_named<S: Snapshot, L: Ledger>(
     kept: &Parts,
     vars: &Vars,
     list: &[u64],
+    left: dg_values::List<Left>,
     reads: &mut Steps<L>,
 ) -> Result<(), TreeFault>
     ensures ok { (ds : List Definition) → IsLawful (S.declared snap.now) (S.graph snap.now) → AreOfKind ds vars.now.variables → IsBlockOf (S.declared snap.now) ds block.now kept.now
-        → OnOk result (out.new ≡ out.old ++ field_text (nodes_shown (S.declared snap.now) (S.graph snap.now) ds vars.now.variables block.now list.now)) }
+        → AreLeftAt (S.declared snap.now) (S.graph snap.now) vars.now.variables block.now kept.now list.now left → OnOk result (out.new ≡ out.old ++ field_text (nodes_shown (S.declared snap.now) (S.graph snap.now) ds vars.now.variables block.now list.now)) }
     ensures too_large { (ds : List Definition) → IsLawful (S.declared snap.now) (S.graph snap.now) → AreOfKind ds vars.now.variables → IsBlockOf (S.declared snap.now) ds block.now kept.now
-        → IsErrOf result TreeFault.TooLarge → 16777216 < length (out.old ++ field_text (nodes_shown (S.declared snap.now) (S.graph snap.now) ds vars.now.variables block.now list.now)) }
+        → AreLeftAt (S.declared snap.now) (S.graph snap.now) vars.now.variables block.now kept.now list.now left → IsErrOf result TreeFault.TooLarge → 16777216 < length (out.old ++ field_text (nodes_shown (S.declared snap.now) (S.graph snap.now) ds vars.now.variables block.now list.now)) }
 {
-    let array = array_shown(alloc, snap, block, kept, vars, list, reads)?;
+    let array = array_shown(alloc, snap, block, kept, vars, list, left, reads)?;
     out.key(block.name.as_str())?;
     out.mark(array.get(0))
 }
@@ -138,8 +141,10 @@ fn push_shown<S: Snapshot, L: Ledger>(
         return push_values(alloc, out, block, kept, folds);
     }
     let list = nodes_of(alloc, snap, block, kept, vars, reads)?;
-    let list = left_of(alloc, snap, block, kept, vars, list, reads)?;
-    push_named(alloc, snap, out, block, kept, vars, list.as_slice(), reads)
+    let left = left_of(alloc, snap, block, kept, vars, list, reads)?;
+    let inside = left.inside;
+    let list = left.list.as_slice();
+    push_named(alloc, snap, out, block, kept, vars, list, inside, reads)
 }
 
 // Adds what a block shows, unless it is hidden. It answers whether a part stands there then.

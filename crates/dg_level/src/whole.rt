@@ -213,7 +213,7 @@ fn nodes_with<S: Snapshot, L: Ledger>(
                 &[],
                 kept,
                 vars,
-                &nodes,
+                nodes,
                 reads,
             ),
             Some(braces) => nodes_with_edge(
@@ -224,7 +224,7 @@ fn nodes_with<S: Snapshot, L: Ledger>(
                 braces.as_slice(),
                 kept,
                 vars,
-                &nodes,
+                nodes,
                 reads,
             ),
         },
@@ -241,11 +241,11 @@ fn nodes_with_edge<S: Snapshot, L: Ledger>(
     braces: &[QField],
     kept: &Item,
     vars: &Vars,
-    nodes: &Uids,
+    nodes: Uids,
     reads: &mut Steps<L>,
 ) -> Mem<With>
-    ensures nodes { IfOk result (λ with. with.nodes ≡ filter (kept_there (S.declared snap.now) (S.graph snap.now) vars.now.variables edge.now args.now braces.now (out-Item kept.now)) nodes.now) }
-    ensures left { (dirs : Items QDir) (fields : Option (Items QField)) → in_braces fields ≡ braces.now → IfOk result (λ with. IsLeft (S.declared snap.now) (S.graph snap.now) vars.now.variables (items.Edge edge.now args.now dirs fields) kept.now nodes.now with.left) }
+    ensures nodes { IfOk result (λ with. with.nodes ≡ filter (kept_there (S.declared snap.now) (S.graph snap.now) vars.now.variables edge.now args.now braces.now (out-Item kept.now)) nodes) }
+    ensures left { (dirs : Items QDir) (fields : Option (Items QField)) → in_braces fields ≡ braces.now → IfOk result (λ with. IsLeft (S.declared snap.now) (S.graph snap.now) vars.now.variables (items.Edge edge.now args.now dirs fields) kept.now nodes with.left) }
 {
     let Item::Edge {
         orders,
@@ -258,7 +258,7 @@ fn nodes_with_edge<S: Snapshot, L: Ledger>(
     let definition = snap.schema().lookup(edge.pred.as_str());
     let sort = sort_of(definition, edge.back);
     if !leads_to_nodes(sort) {
-        let valued = nodes_with_values(alloc, snap, definition, edge.pred.as_str(), nodes, reads)?;
+        let valued = nodes_with_values(alloc, snap, definition, edge.pred.as_str(), &nodes, reads)?;
         return Ok(with_nodes(valued));
     }
     let lists = lists_of(
@@ -275,10 +275,12 @@ fn nodes_with_edge<S: Snapshot, L: Ledger>(
     )?;
     let level = nodes_below(alloc, lists.as_slice())?;
     let below = whole_nodes(alloc, snap, braces, inner.as_slice(), vars, level, reads)?;
-    let leading = nodes_leading(alloc, nodes, lists.as_slice(), &below.nodes)?;
+    let leading = nodes_leading(alloc, &nodes, lists.as_slice(), &below.nodes)?;
     Ok(With {
         nodes: leading,
         left: Left::Nodes {
+            of: nodes,
+            lists: List::from_vec(lists),
             whole: below.nodes,
             inside: below.inside,
         },
@@ -317,8 +319,17 @@ fn lists_in(alloc: Global, lists: &[List<u64>], whole: &Uids) -> Mem<Vec<List<u6
     Ok(made)
 }
 
-/// The nodes of a list that remain: where a cascade drops nodes, those at which none of the fields is missing. The error is want
-/// of memory.
+/// A list without the nodes that a cascade drops, and what is known about those that are left.
+#[derive(Drop)]
+pub struct LeftList {
+    /// The list.
+    pub list: Vec<u64>,
+    /// What is known for its nodes under each field.
+    pub inside: List<Left>,
+}
+
+/// The nodes of a list that remain: where a cascade drops nodes, those at which none of the fields is missing. What is found out
+/// about them is answered too. The error is want of memory.
 pub fn left_list<S: Snapshot, L: Ledger>(
     alloc: Global,
     snap: &S,
@@ -328,15 +339,23 @@ pub fn left_list<S: Snapshot, L: Ledger>(
     list: Vec<u64>,
     vars: &Vars,
     reads: &mut Steps<L>,
-) -> Mem<Vec<u64>>
-    ensures { IfOk result (λ left. left.items ≡ remaining cascade (planned_there (S.declared snap.now) (S.graph snap.now) vars.now.variables braces.now inner.now) list.items) }
+) -> Mem<LeftList>
+    ensures list { IfOk result (λ left. left.list.items ≡ remaining cascade (planned_there (S.declared snap.now) (S.graph snap.now) vars.now.variables braces.now inner.now) list.items) }
+    ensures inside { IfOk result (λ left. AreLeft (S.declared snap.now) (S.graph snap.now) vars.now.variables braces.now inner.now (ascending nat_cmp left.list.items) left.inside) }
 {
     if !cascade {
-        return Ok(list);
+        return Ok(LeftList {
+            list,
+            inside: List::new(alloc),
+        });
     }
     let level = level_of(alloc, list.as_slice())?;
     let whole = whole_nodes(alloc, snap, braces, inner, vars, level, reads)?;
-    nodes_in(alloc, list.as_slice(), &whole.nodes)
+    let list = nodes_in(alloc, list.as_slice(), &whole.nodes)?;
+    Ok(LeftList {
+        list,
+        inside: whole.inside,
+    })
 }
 
 /// Lists of the nodes of a level, without the nodes that a cascade drops, and what is known about those that are left.
@@ -363,7 +382,7 @@ fn whole_below<S: Snapshot, L: Ledger>(
     ensures inside { IsLeftIn (S.declared snap.now) (S.graph snap.now) vars.now.variables braces.now inner.now lists.now left → IfOk result (λ whole. AreLeft (S.declared snap.now) (S.graph snap.now) vars.now.variables braces.now inner.now whole.nodes whole.inside) }
 {
     match left {
-        Left::Nodes { whole, inside } => Ok(Whole {
+        Left::Nodes { whole, inside, .. } => Ok(Whole {
             nodes: whole,
             inside,
         }),

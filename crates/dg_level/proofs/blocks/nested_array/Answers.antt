@@ -7,6 +7,7 @@ use Rattle.dg_check.specs.Parts.{AreFieldsOf}
 use Rattle.dg_tree.specs.Texts.{key_text, array_text}
 use Rattle.dg_level.specs.Columns.{number_object}
 use Rattle.dg_level.specs.Keys.{all_count_keys}
+use Rattle.dg_level.specs.Left.{AreLeft}
 use Rattle.dg_level.specs.Rows.{Written, total, row_text, objects_of, AreOfLevel}
 use Rattle.dg_level.specs.Shown.{cascades, counts_in, fields_at}
 use Rattle.dg_level.proofs.BlockLaws.{all_there, row_at, array_is, rows_pass, array_passes}
@@ -14,7 +15,7 @@ use Rattle.dg_level.proofs.TextLaws.{text_counts}
 use Rattle.dg_level.proofs.blocks.nested_array.Goals as goal
 
 pub returns-in_err-below-clause-too_large : goal.returns-in_err-below-clause-too_large
-returns-in_err-below-clause-too_large g c = λ ds lawful kinds is e.
+returns-in_err-below-clause-too_large g c = λ ds lawful kinds is known e.
     let schema = g.S.Snapshot.declared c.args.snap.now in
     let graph = g.S.Snapshot.graph c.args.snap.now in
     let vars = c.args.vars.now.variables in
@@ -25,13 +26,17 @@ returns-in_err-below-clause-too_large g c = λ ds lawful kinds is e.
     let are : AreFieldsOf schema ds c.as_slice-fields.result.now c.as_slice-2.result.now =
     subst (λ (ks : List Field). AreFieldsOf schema ds c.as_slice-fields.result.now ks) (sym c.as_slice-2.ensures)
     (subst (λ (fs : List QField). AreFieldsOf schema ds fs c.args.kept.now.fields) (sym c.as_slice-fields.ensures) is.fields) in
+    let seen : AreLeft schema graph vars c.as_slice-fields.result.now c.as_slice-2.result.now c.in_ok-level.level c.args.left =
+    subst (λ (ns : List ℕ). AreLeft schema graph vars c.as_slice-fields.result.now c.as_slice-2.result.now ns c.args.left) (sym c.in_ok-level.ensures)
+    (subst (λ (ks : List Field). AreLeft schema graph vars c.as_slice-fields.result.now ks (ascending nat_cmp list) c.args.left) (sym c.as_slice-2.ensures)
+    (subst (λ (fs : List QField). AreLeft schema graph vars fs c.args.kept.now.fields (ascending nat_cmp list) c.args.left) (sym c.as_slice-fields.ensures) known)) in
     let same : total (map (λ n. row_text (fields_at schema graph ds vars c.cascades.result c.as_slice-fields.result.now n)) c.in_ok-level.level) ≡ total (map (row_at (fields_at schema graph ds vars cascade block.fields)) (ascending nat_cmp list)) =
     λ i. total (map (λ n. row_text (fields_at schema graph ds vars (flag i) (c.as_slice-fields.ensures i) n)) (c.in_ok-level.ensures i)) in
     rows_pass (counts_in schema graph ds vars block.fields) (fields_at schema graph ds vars cascade block.fields) list 16777216
-    (subst (λ (t : ℕ). 16777216 < t) same (c.rows_of.ensures.too_large ds lawful kinds are (search rules)))
+    (subst (λ (t : ℕ). 16777216 < t) same (c.known_rows.ensures.too_large ds lawful kinds are seen (search rules)))
 
 pub returns-in_err-array-clause-too_large : goal.returns-in_err-array-clause-too_large
-returns-in_err-array-clause-too_large g c = λ ds lawful kinds is e.
+returns-in_err-array-clause-too_large g c = λ ds lawful kinds is known e.
     let schema = g.S.Snapshot.declared c.args.snap.now in
     let graph = g.S.Snapshot.graph c.args.snap.now in
     let vars = c.args.vars.now.variables in
@@ -44,8 +49,12 @@ returns-in_err-array-clause-too_large g c = λ ds lawful kinds is e.
     let are : AreFieldsOf schema ds c.as_slice-fields.result.now c.as_slice-2.result.now =
     subst (λ (ks : List Field). AreFieldsOf schema ds c.as_slice-fields.result.now ks) (sym c.as_slice-2.ensures)
     (subst (λ (fs : List QField). AreFieldsOf schema ds fs c.args.kept.now.fields) (sym c.as_slice-fields.ensures) is.fields) in
+    let seen : AreLeft schema graph vars c.as_slice-fields.result.now c.as_slice-2.result.now c.in_ok-level.level c.args.left =
+    subst (λ (ns : List ℕ). AreLeft schema graph vars c.as_slice-fields.result.now c.as_slice-2.result.now ns c.args.left) (sym c.in_ok-level.ensures)
+    (subst (λ (ks : List Field). AreLeft schema graph vars c.as_slice-fields.result.now ks (ascending nat_cmp list) c.args.left) (sym c.as_slice-2.ensures)
+    (subst (λ (fs : List QField). AreLeft schema graph vars fs c.args.kept.now.fields (ascending nat_cmp list) c.args.left) (sym c.as_slice-fields.ensures) known)) in
     let rows : c.in_ok-below.below.rows ≡ map (row_at fields) c.in_ok-level.level =
-    c.in_ok-below.ensures.rows ds lawful kinds are ∙ (λ i. map (λ n. row_text (fields_at schema graph ds vars (flag i) (c.as_slice-fields.ensures i) n)) c.in_ok-level.level) in
+    c.in_ok-below.ensures.rows ds lawful kinds are seen ∙ (λ i. map (λ n. row_text (fields_at schema graph ds vars (flag i) (c.as_slice-fields.ensures i) n)) c.in_ok-level.level) in
     let there : AreOfLevel c.in_ok-level.level list = subst (λ (level : List ℕ). AreOfLevel level list) (sym c.in_ok-level.ensures) (all_there list) in
     let keys : c.as_slice-3.result.now ≡ map key_text (counts_in schema graph ds vars block.fields) =
     c.as_slice-3.ensures ∙ (c.in_ok-counts.ensures ∙ (λ i. map key_text (all_count_keys (c.as_slice-fields.ensures i))) ∙ ap (map key_text) (sym (text_counts schema graph ds vars block.fields))) in
@@ -55,7 +64,7 @@ returns-in_err-array-clause-too_large g c = λ ds lawful kinds is e.
     (c.array.ensures.too_large (row_at fields) rows there (search rules))
 
 pub returns-clause-ok : goal.returns-clause-ok
-returns-clause-ok g c = λ ds lawful kinds is.
+returns-clause-ok g c = λ ds lawful kinds is known.
     let schema = g.S.Snapshot.declared c.args.snap.now in
     let graph = g.S.Snapshot.graph c.args.snap.now in
     let vars = c.args.vars.now.variables in
@@ -68,8 +77,12 @@ returns-clause-ok g c = λ ds lawful kinds is.
     let are : AreFieldsOf schema ds c.as_slice-fields.result.now c.as_slice-2.result.now =
     subst (λ (ks : List Field). AreFieldsOf schema ds c.as_slice-fields.result.now ks) (sym c.as_slice-2.ensures)
     (subst (λ (fs : List QField). AreFieldsOf schema ds fs c.args.kept.now.fields) (sym c.as_slice-fields.ensures) is.fields) in
+    let seen : AreLeft schema graph vars c.as_slice-fields.result.now c.as_slice-2.result.now c.in_ok-level.level c.args.left =
+    subst (λ (ns : List ℕ). AreLeft schema graph vars c.as_slice-fields.result.now c.as_slice-2.result.now ns c.args.left) (sym c.in_ok-level.ensures)
+    (subst (λ (ks : List Field). AreLeft schema graph vars c.as_slice-fields.result.now ks (ascending nat_cmp list) c.args.left) (sym c.as_slice-2.ensures)
+    (subst (λ (fs : List QField). AreLeft schema graph vars fs c.args.kept.now.fields (ascending nat_cmp list) c.args.left) (sym c.as_slice-fields.ensures) known)) in
     let rows : c.in_ok-below.below.rows ≡ map (row_at fields) c.in_ok-level.level =
-    c.in_ok-below.ensures.rows ds lawful kinds are ∙ (λ i. map (λ n. row_text (fields_at schema graph ds vars (flag i) (c.as_slice-fields.ensures i) n)) c.in_ok-level.level) in
+    c.in_ok-below.ensures.rows ds lawful kinds are seen ∙ (λ i. map (λ n. row_text (fields_at schema graph ds vars (flag i) (c.as_slice-fields.ensures i) n)) c.in_ok-level.level) in
     let there : AreOfLevel c.in_ok-level.level list = subst (λ (level : List ℕ). AreOfLevel level list) (sym c.in_ok-level.ensures) (all_there list) in
     let keys : c.as_slice-3.result.now ≡ map key_text counts =
     c.as_slice-3.ensures ∙ (c.in_ok-counts.ensures ∙ (λ i. map key_text (all_count_keys (c.as_slice-fields.ensures i))) ∙ ap (map key_text) (sym (text_counts schema graph ds vars block.fields))) in

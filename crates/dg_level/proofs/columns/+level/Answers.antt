@@ -23,7 +23,7 @@ use Rattle.dg_level.specs.Planned.{PlannedItem, is_single, planned_list, planned
 use Rattle.dg_level.specs.Columns.{FieldsOf, TreesOf, IsBelow, AreShown, ShowsBy, shown_by, held_by, bytes_of}
 use Rattle.dg_level.specs.Keys.{all_count_keys}
 use Rattle.dg_level.specs.Levels.{trees_of, all_trees, all_fields, list_of, left_of, below_trees, leads_to_nodes, own_shown, bare_trees, kept_trees, all_bytes}
-use Rattle.dg_level.proofs.LeftLaws.{in_these, of_edge, next_known, known_behind}
+use Rattle.dg_level.proofs.LeftLaws.{in_these, knows_lists, of_edge, next_known, known_behind}
 use Rattle.dg_level.proofs.PlannedLaws.{item_count, shows_none, trees_val, trees_edge, trees_bare, shown_is, trees_within}
 use Rattle.dg_level.proofs.ListLaws.{map_twice}
 use Rattle.dg_level.proofs.ShownLaws.{level_shown, left_short, none_below, held_within}
@@ -74,15 +74,16 @@ below_of-returns-in_err-rows-clause-too_large g t c = λ known e.
     let vars = c.args.vars.now.variables in
     let nodes = c.args.nodes.now in
     let own = list_of graph vars c.args.edge.now c.args.args.now c.args.orders.now c.args.filters.now c.args.single in
+    let read : c.in_ok-lists.lists.items ≡ map own nodes = c.in_ok-lists.ensures (knows_lists schema graph vars own c.args.braces.now c.args.inner.now nodes c.args.left known) in
     let in_them : IsLeftIn schema graph vars c.args.braces.now c.args.inner.now c.in_ok-lists.lists.items c.args.left =
-    in_these schema graph vars own c.args.braces.now c.args.inner.now nodes c.in_ok-lists.lists.items c.args.left c.in_ok-lists.ensures known in
+    in_these schema graph vars own c.args.braces.now c.args.inner.now nodes c.in_ok-lists.lists.items c.args.left read known in
     let same : ascending nat_cmp (flat_map (λ (l : List ℕ). l) c.in_ok-made.made.lists.items) ≡ c.as_slice-2.result.now =
     sym (c.as_slice-2.ensures.items ∙ (c.in_ok-level.ensures ∙ (λ j. ascending nat_cmp (flat_map (λ (l : List ℕ). l) (c.as_slice.ensures.value j))))) in
     let inside : AreLeft schema graph vars c.args.braces.now c.args.inner.now c.as_slice-2.result.now c.in_ok-made.made.inside =
     subst (λ (ns : List ℕ). AreLeft schema graph vars c.args.braces.now c.args.inner.now ns c.in_ok-made.made.inside) same (c.in_ok-made.ensures.inside in_them) in
     let whole = planned_there schema graph vars c.args.braces.now c.args.inner.now in
     let list = left_of schema graph vars c.args.edge.now c.args.args.now c.args.orders.now c.args.filters.now c.args.braces.now c.args.inner.now c.args.single c.args.cascade in
-    let lists : c.in_ok-made.made.lists.items ≡ map list nodes = c.in_ok-made.ensures.lists in_them ∙ (ap (map (remaining c.args.cascade whole)) c.in_ok-lists.ensures ∙ map_twice (remaining c.args.cascade whole) own nodes) in
+    let lists : c.in_ok-made.made.lists.items ≡ map list nodes = c.in_ok-made.ensures.lists in_them ∙ (ap (map (remaining c.args.cascade whole)) read ∙ map_twice (remaining c.args.cascade whole) own nodes) in
     let at = planned_at schema graph vars c.args.cascade c.args.braces.now c.args.inner.now in
     let level : c.in_ok-level.level ≡ ascending nat_cmp (flat_map list nodes) =
     c.in_ok-level.ensures ∙ ((λ j. ascending nat_cmp (flat_map (λ (l : List ℕ). l) ((c.as_slice.ensures.value ∙ lists) j))) ∙ ap (ascending nat_cmp) (flat_map-map (λ (l : List ℕ). l) list nodes)) in
@@ -101,15 +102,16 @@ below_of-returns-clause-shows g t c = λ known.
     let vars = c.args.vars.now.variables in
     let nodes = c.args.nodes.now in
     let own = list_of graph vars c.args.edge.now c.args.args.now c.args.orders.now c.args.filters.now c.args.single in
+    let read : c.in_ok-lists.lists.items ≡ map own nodes = c.in_ok-lists.ensures (knows_lists schema graph vars own c.args.braces.now c.args.inner.now nodes c.args.left known) in
     let in_them : IsLeftIn schema graph vars c.args.braces.now c.args.inner.now c.in_ok-lists.lists.items c.args.left =
-    in_these schema graph vars own c.args.braces.now c.args.inner.now nodes c.in_ok-lists.lists.items c.args.left c.in_ok-lists.ensures known in
+    in_these schema graph vars own c.args.braces.now c.args.inner.now nodes c.in_ok-lists.lists.items c.args.left read known in
     let same : ascending nat_cmp (flat_map (λ (l : List ℕ). l) c.in_ok-made.made.lists.items) ≡ c.as_slice-2.result.now =
     sym (c.as_slice-2.ensures.items ∙ (c.in_ok-level.ensures ∙ (λ j. ascending nat_cmp (flat_map (λ (l : List ℕ). l) (c.as_slice.ensures.value j))))) in
     let inside : AreLeft schema graph vars c.args.braces.now c.args.inner.now c.as_slice-2.result.now c.in_ok-made.made.inside =
     subst (λ (ns : List ℕ). AreLeft schema graph vars c.args.braces.now c.args.inner.now ns c.in_ok-made.made.inside) same (c.in_ok-made.ensures.inside in_them) in
     let whole = planned_there schema graph vars c.args.braces.now c.args.inner.now in
     let list = left_of schema graph vars c.args.edge.now c.args.args.now c.args.orders.now c.args.filters.now c.args.braces.now c.args.inner.now c.args.single c.args.cascade in
-    let lists : c.in_ok-made.made.lists.items ≡ map list nodes = c.in_ok-made.ensures.lists in_them ∙ (ap (map (remaining c.args.cascade whole)) c.in_ok-lists.ensures ∙ map_twice (remaining c.args.cascade whole) own nodes) in
+    let lists : c.in_ok-made.made.lists.items ≡ map list nodes = c.in_ok-made.ensures.lists in_them ∙ (ap (map (remaining c.args.cascade whole)) read ∙ map_twice (remaining c.args.cascade whole) own nodes) in
     let at = planned_at schema graph vars c.args.cascade c.args.braces.now c.args.inner.now in
     let level : c.in_ok-level.level ≡ ascending nat_cmp (flat_map list nodes) =
     c.in_ok-level.ensures ∙ ((λ j. ascending nat_cmp (flat_map (λ (l : List ℕ). l) ((c.as_slice.ensures.value ∙ lists) j))) ∙ ap (ascending nat_cmp) (flat_map-map (λ (l : List ℕ). l) list nodes)) in

@@ -25,7 +25,7 @@ use Rattle.dg_level.specs.Levels.{list_of, left_of, leads_to_nodes}
 use Rattle.dg_level.specs.Flats.{weight_in}
 use Rattle.dg_level.specs.FlatLevels.{FlatsOf, weight_of, own_trees, with_own, sort_in, list_flats, behind_edge, behind_item, behind_field, behind_fields}
 use Rattle.dg_level.proofs.ListLaws.{map_twice}
-use Rattle.dg_level.proofs.LeftLaws.{in_these, of_edge, next_known, known_behind}
+use Rattle.dg_level.proofs.LeftLaws.{in_these, knows_lists, of_edge, next_known, known_behind}
 use Rattle.dg_level.proofs.FlatCounts.{filled_weight}
 use Rattle.dg_level.proofs.FlatTurns.{written_back}
 use Rattle.dg_level.proofs.FlatSums.{sums_within, none_of, filled_sum, below_within}
@@ -283,15 +283,16 @@ behind_nodes-returns-in_err-below-clause-too_large g t c = λ known f before has
     let vars = c.args.vars.now.variables in
     let nodes = c.args.nodes.now in
     let own = list_of graph vars c.args.edge.now c.args.args.now c.args.orders.now c.args.filters.now c.args.single in
+    let read : c.in_ok-lists.lists.items ≡ map own nodes = c.in_ok-lists.ensures (knows_lists schema graph vars own c.args.braces.now c.args.inner.now nodes c.args.left known) in
     let in_them : IsLeftIn schema graph vars c.args.braces.now c.args.inner.now c.in_ok-lists.lists.items c.args.left =
-    in_these schema graph vars own c.args.braces.now c.args.inner.now nodes c.in_ok-lists.lists.items c.args.left c.in_ok-lists.ensures known in
+    in_these schema graph vars own c.args.braces.now c.args.inner.now nodes c.in_ok-lists.lists.items c.args.left read known in
     let same_level : ascending nat_cmp (flat_map (λ (l : List ℕ). l) c.in_ok-from.from.lists.items) ≡ c.as_slice-2.result.now =
     sym (c.as_slice-2.ensures.items ∙ (c.in_ok-level.ensures ∙ (λ j. ascending nat_cmp (flat_map (λ (l : List ℕ). l) (c.as_slice.ensures.value j))))) in
     let inside : AreLeft schema graph vars c.args.braces.now c.args.inner.now c.as_slice-2.result.now c.in_ok-from.from.inside =
     subst (λ (ns : List ℕ). AreLeft schema graph vars c.args.braces.now c.args.inner.now ns c.in_ok-from.from.inside) same_level (c.in_ok-from.ensures.inside in_them) in
     let whole = planned_there schema graph vars c.args.braces.now c.args.inner.now in
     let list = left_of schema graph vars c.args.edge.now c.args.args.now c.args.orders.now c.args.filters.now c.args.braces.now c.args.inner.now c.args.single c.args.cascade in
-    let lists : c.in_ok-from.from.lists.items ≡ map list nodes = c.in_ok-from.ensures.lists in_them ∙ (ap (map (remaining c.args.cascade whole)) c.in_ok-lists.ensures ∙ map_twice (remaining c.args.cascade whole) own nodes) in
+    let lists : c.in_ok-from.from.lists.items ≡ map list nodes = c.in_ok-from.ensures.lists in_them ∙ (ap (map (remaining c.args.cascade whole)) read ∙ map_twice (remaining c.args.cascade whole) own nodes) in
     let level : c.in_ok-level.level ≡ ascending nat_cmp (flat_map list nodes) =
     c.in_ok-level.ensures ∙ ((λ j. ascending nat_cmp (flat_map (λ (l : List ℕ). l) ((c.as_slice.ensures.value ∙ lists) j))) ∙ ap (ascending nat_cmp) (flat_map-map (λ (l : List ℕ). l) list nodes)) in
     let flats : FlatsOf = planned_flats schema graph vars c.args.cascade c.args.braces.now c.args.inner.now in
@@ -310,15 +311,16 @@ behind_nodes-returns-in_err-times_each-clause-too_large g t c = λ known f befor
     let vars = c.args.vars.now.variables in
     let nodes = c.args.nodes.now in
     let own = list_of graph vars c.args.edge.now c.args.args.now c.args.orders.now c.args.filters.now c.args.single in
+    let read : c.in_ok-lists.lists.items ≡ map own nodes = c.in_ok-lists.ensures (knows_lists schema graph vars own c.args.braces.now c.args.inner.now nodes c.args.left known) in
     let in_them : IsLeftIn schema graph vars c.args.braces.now c.args.inner.now c.in_ok-lists.lists.items c.args.left =
-    in_these schema graph vars own c.args.braces.now c.args.inner.now nodes c.in_ok-lists.lists.items c.args.left c.in_ok-lists.ensures known in
+    in_these schema graph vars own c.args.braces.now c.args.inner.now nodes c.in_ok-lists.lists.items c.args.left read known in
     let same_level : ascending nat_cmp (flat_map (λ (l : List ℕ). l) c.in_ok-from.from.lists.items) ≡ c.as_slice-2.result.now =
     sym (c.as_slice-2.ensures.items ∙ (c.in_ok-level.ensures ∙ (λ j. ascending nat_cmp (flat_map (λ (l : List ℕ). l) (c.as_slice.ensures.value j))))) in
     let inside : AreLeft schema graph vars c.args.braces.now c.args.inner.now c.as_slice-2.result.now c.in_ok-from.from.inside =
     subst (λ (ns : List ℕ). AreLeft schema graph vars c.args.braces.now c.args.inner.now ns c.in_ok-from.from.inside) same_level (c.in_ok-from.ensures.inside in_them) in
     let whole = planned_there schema graph vars c.args.braces.now c.args.inner.now in
     let list = left_of schema graph vars c.args.edge.now c.args.args.now c.args.orders.now c.args.filters.now c.args.braces.now c.args.inner.now c.args.single c.args.cascade in
-    let lists : c.in_ok-from.from.lists.items ≡ map list nodes = c.in_ok-from.ensures.lists in_them ∙ (ap (map (remaining c.args.cascade whole)) c.in_ok-lists.ensures ∙ map_twice (remaining c.args.cascade whole) own nodes) in
+    let lists : c.in_ok-from.from.lists.items ≡ map list nodes = c.in_ok-from.ensures.lists in_them ∙ (ap (map (remaining c.args.cascade whole)) read ∙ map_twice (remaining c.args.cascade whole) own nodes) in
     let level : c.in_ok-level.level ≡ ascending nat_cmp (flat_map list nodes) =
     c.in_ok-level.ensures ∙ ((λ j. ascending nat_cmp (flat_map (λ (l : List ℕ). l) ((c.as_slice.ensures.value ∙ lists) j))) ∙ ap (ascending nat_cmp) (flat_map-map (λ (l : List ℕ). l) list nodes)) in
     let flats : FlatsOf = planned_flats schema graph vars c.args.cascade c.args.braces.now c.args.inner.now in
@@ -332,15 +334,16 @@ behind_nodes-returns-clause-flats g t c = λ known f before.
     let vars = c.args.vars.now.variables in
     let nodes = c.args.nodes.now in
     let own = list_of graph vars c.args.edge.now c.args.args.now c.args.orders.now c.args.filters.now c.args.single in
+    let read : c.in_ok-lists.lists.items ≡ map own nodes = c.in_ok-lists.ensures (knows_lists schema graph vars own c.args.braces.now c.args.inner.now nodes c.args.left known) in
     let in_them : IsLeftIn schema graph vars c.args.braces.now c.args.inner.now c.in_ok-lists.lists.items c.args.left =
-    in_these schema graph vars own c.args.braces.now c.args.inner.now nodes c.in_ok-lists.lists.items c.args.left c.in_ok-lists.ensures known in
+    in_these schema graph vars own c.args.braces.now c.args.inner.now nodes c.in_ok-lists.lists.items c.args.left read known in
     let same_level : ascending nat_cmp (flat_map (λ (l : List ℕ). l) c.in_ok-from.from.lists.items) ≡ c.as_slice-2.result.now =
     sym (c.as_slice-2.ensures.items ∙ (c.in_ok-level.ensures ∙ (λ j. ascending nat_cmp (flat_map (λ (l : List ℕ). l) (c.as_slice.ensures.value j))))) in
     let inside : AreLeft schema graph vars c.args.braces.now c.args.inner.now c.as_slice-2.result.now c.in_ok-from.from.inside =
     subst (λ (ns : List ℕ). AreLeft schema graph vars c.args.braces.now c.args.inner.now ns c.in_ok-from.from.inside) same_level (c.in_ok-from.ensures.inside in_them) in
     let whole = planned_there schema graph vars c.args.braces.now c.args.inner.now in
     let list = left_of schema graph vars c.args.edge.now c.args.args.now c.args.orders.now c.args.filters.now c.args.braces.now c.args.inner.now c.args.single c.args.cascade in
-    let lists : c.in_ok-from.from.lists.items ≡ map list nodes = c.in_ok-from.ensures.lists in_them ∙ (ap (map (remaining c.args.cascade whole)) c.in_ok-lists.ensures ∙ map_twice (remaining c.args.cascade whole) own nodes) in
+    let lists : c.in_ok-from.from.lists.items ≡ map list nodes = c.in_ok-from.ensures.lists in_them ∙ (ap (map (remaining c.args.cascade whole)) read ∙ map_twice (remaining c.args.cascade whole) own nodes) in
     let level : c.in_ok-level.level ≡ ascending nat_cmp (flat_map list nodes) =
     c.in_ok-level.ensures ∙ ((λ j. ascending nat_cmp (flat_map (λ (l : List ℕ). l) ((c.as_slice.ensures.value ∙ lists) j))) ∙ ap (ascending nat_cmp) (flat_map-map (λ (l : List ℕ). l) list nodes)) in
     let flats : FlatsOf = planned_flats schema graph vars c.args.cascade c.args.braces.now c.args.inner.now in

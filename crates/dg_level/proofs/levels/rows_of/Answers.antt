@@ -1,12 +1,7 @@
-use Rattle.std.proofs.Common.{◌≡◌, ◌<◌, ℕ, List, map, sym, subst}
-use Rattle.std.specs.Prelude.{IfOk}
+use Rattle.std.proofs.Common.{List, sym, subst}
 use Rattle.dg_level.specs.declared.left.Left.{Left}
 use Rattle.dg_level.specs.Left.{AreLeft}
-use Rattle.dg_level.specs.Rows.{total, row_text}
-use Rattle.dg_level.specs.Shown.{fields_at}
-use Rattle.dg_level.specs.Planned.{planned_at}
 use Rattle.dg_level.proofs.LeftLaws.{none_known}
-use Rattle.dg_level.proofs.MeaningLaws.{planned_means}
 use Rattle.dg_level.proofs.levels.rows_of.Goals as goal
 
 pub returns-clause-rows : goal.returns-clause-rows
@@ -16,11 +11,8 @@ returns-clause-rows g c = λ ds lawful of_kind are.
     let vars = c.args.vars.now.variables in
     let fields = c.args.fields.now in
     let kept = c.args.kept.now in
-    let e : map (λ n. row_text (planned_at schema graph vars c.args.cascade fields kept n)) c.as_slice.result.now ≡ map (λ n. row_text (fields_at schema graph ds vars c.args.cascade fields n)) c.args.nodes.now =
-    λ i. map (λ n. row_text (planned_means schema ds graph vars lawful of_kind c.meanings.ensures.filters c.args.cascade fields kept are n i)) (c.as_slice.ensures.items i) in
-    let none : AreLeft schema graph vars fields kept c.as_slice.result.now c.new.result =
-    subst (λ (ls : List Left). AreLeft schema graph vars fields kept c.as_slice.result.now ls) (sym c.new.ensures) (none_known schema graph vars fields kept c.as_slice.result.now) in
-    subst (λ (xs : List (List ℕ)). IfOk c.level_rows.result (λ rows. rows.rows ≡ xs)) e (c.level_rows.ensures.rows none)
+    let nodes = c.args.nodes.now in
+    c.known_rows.ensures.rows ds lawful of_kind are (subst (λ (ls : List Left). AreLeft schema graph vars fields kept nodes ls) (sym c.new-none.ensures) (none_known schema graph vars fields kept nodes))
 
 pub returns-clause-too_large : goal.returns-clause-too_large
 returns-clause-too_large g c = λ ds lawful of_kind are err.
@@ -29,8 +21,5 @@ returns-clause-too_large g c = λ ds lawful of_kind are err.
     let vars = c.args.vars.now.variables in
     let fields = c.args.fields.now in
     let kept = c.args.kept.now in
-    let e : map (λ n. row_text (planned_at schema graph vars c.args.cascade fields kept n)) c.as_slice.result.now ≡ map (λ n. row_text (fields_at schema graph ds vars c.args.cascade fields n)) c.args.nodes.now =
-    λ i. map (λ n. row_text (planned_means schema ds graph vars lawful of_kind c.meanings.ensures.filters c.args.cascade fields kept are n i)) (c.as_slice.ensures.items i) in
-    let none : AreLeft schema graph vars fields kept c.as_slice.result.now c.new.result =
-    subst (λ (ls : List Left). AreLeft schema graph vars fields kept c.as_slice.result.now ls) (sym c.new.ensures) (none_known schema graph vars fields kept c.as_slice.result.now) in
-    subst (λ (xs : List (List ℕ)). c.args.limit < total xs) e (c.level_rows.ensures.too_large none err)
+    let nodes = c.args.nodes.now in
+    c.known_rows.ensures.too_large ds lawful of_kind are (subst (λ (ls : List Left). AreLeft schema graph vars fields kept nodes ls) (sym c.new-none.ensures) (none_known schema graph vars fields kept nodes)) err

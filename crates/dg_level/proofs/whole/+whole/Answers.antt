@@ -86,8 +86,8 @@ nodes_with-returns-in-Uid-clause-left g t c =
     let graph = g.S.Snapshot.graph c.args.snap.now in
     subst (λ (l : Left). IsLeft schema graph c.args.vars.now.variables c.args.item.now c.args.kept.now c.args.nodes l) (sym c.with_nodes-in-Uid.ensures.1) (unknown c.args.item.now c.args.kept.now c.args.nodes)
 
-pub nodes_with-returns-in-Val-clause-left : goal.nodes_with-returns-in-Val-clause-left
-nodes_with-returns-in-Val-clause-left g t c =
+pub nodes_with-returns-in_ok-nodes_with_value-in-Val-clause-left : goal.nodes_with-returns-in_ok-nodes_with_value-in-Val-clause-left
+nodes_with-returns-in_ok-nodes_with_value-in-Val-clause-left g t c =
     let schema = g.S.Snapshot.declared c.args.snap.now in
     let graph = g.S.Snapshot.graph c.args.snap.now in
     subst (λ (l : Left). IsLeft schema graph c.args.vars.now.variables c.args.item.now c.args.kept.now c.args.nodes l) (sym c.with_nodes.ensures.1) (unknown c.args.item.now c.args.kept.now c.args.nodes)
@@ -103,8 +103,8 @@ nodes_with-returns-in-None-clause-left g t c =
     let e : items.Edge b.edge c.as_slice.result.now b.dirs None ≡ item = (λ j. items.Edge b.edge (c.as_slice.ensures j) b.dirs None) ∙ sym is in
     subst (λ (q : QItem). IfOk c.nodes_with_edge.result (λ with. IsLeft schema graph vars q c.args.kept.now c.args.nodes with.left)) e (c.nodes_with_edge.ensures.left b.dirs None refl)
 
-pub nodes_with-returns-clause-left : goal.nodes_with-returns-clause-left
-nodes_with-returns-clause-left g t c =
+pub nodes_with-returns-in-Some-clause-left : goal.nodes_with-returns-in-Some-clause-left
+nodes_with-returns-in-Some-clause-left g t c =
     let schema = g.S.Snapshot.declared c.args.snap.now in
     let graph = g.S.Snapshot.graph c.args.snap.now in
     let vars = c.args.vars.now.variables in
@@ -128,8 +128,8 @@ nodes_with-returns-in-None-clause-nodes g t c =
     (λ j. kept_there schema graph vars b.edge (c.as_slice.ensures j) [] (out-Item kept)) ∙ sym (there_bare schema graph vars item kept b.edge b.args b.dirs is) in
     subst (λ (p : ℕ → Bool). IfOk c.nodes_with_edge.result (λ with. with.nodes ≡ filter p c.args.nodes)) e c.nodes_with_edge.ensures.nodes
 
-pub nodes_with-returns-clause-nodes : goal.nodes_with-returns-clause-nodes
-nodes_with-returns-clause-nodes g t c =
+pub nodes_with-returns-in-Some-clause-nodes : goal.nodes_with-returns-in-Some-clause-nodes
+nodes_with-returns-in-Some-clause-nodes g t c =
     let schema = g.S.Snapshot.declared c.args.snap.now in
     let graph = g.S.Snapshot.graph c.args.snap.now in
     let vars = c.args.vars.now.variables in
@@ -149,19 +149,19 @@ nodes_with_edge-returns-in_default-clause-left g t c = λ dirs fields in_them.
     let schema = g.S.Snapshot.declared c.args.snap.now in
     let graph = g.S.Snapshot.graph c.args.snap.now in
     let q = items.Edge c.args.edge.now c.args.args.now dirs fields in
-    subst (λ (l : Left). IsLeft schema graph c.args.vars.now.variables q c.args.kept.now c.args.nodes.now l) (sym c.with_nodes.ensures.1) (unknown q c.args.kept.now c.args.nodes.now)
+    subst (λ (l : Left). IsLeft schema graph c.args.vars.now.variables q c.args.kept.now c.args.nodes l) (sym c.with_nodes.ensures.1) (unknown q c.args.kept.now c.args.nodes)
 
 pub nodes_with_edge-returns-then-not-leads_to_nodes-clause-left : goal.nodes_with_edge-returns-then-not-leads_to_nodes-clause-left
 nodes_with_edge-returns-then-not-leads_to_nodes-clause-left g t c = λ dirs fields in_them.
     let schema = g.S.Snapshot.declared c.args.snap.now in
     let graph = g.S.Snapshot.graph c.args.snap.now in
     let q = items.Edge c.args.edge.now c.args.args.now dirs fields in
-    subst (λ (l : Left). IsLeft schema graph c.args.vars.now.variables q c.args.kept.now c.args.nodes.now l) (sym c.with_nodes-then-not-leads_to_nodes.ensures.1) (unknown q c.args.kept.now c.args.nodes.now)
+    subst (λ (l : Left). IsLeft schema graph c.args.vars.now.variables q c.args.kept.now c.args.nodes l) (sym c.with_nodes-then-not-leads_to_nodes.ensures.1) (unknown q c.args.kept.now c.args.nodes)
 
 pub nodes_with_edge-returns-in_default-clause-nodes : goal.nodes_with_edge-returns-in_default-clause-nodes
 nodes_with_edge-returns-in_default-clause-nodes g t c =
     c.with_nodes.ensures.0 ∙ c.no_nodes.ensures
-    ∙ none_pass (kept_there (g.S.Snapshot.declared c.args.snap.now) (g.S.Snapshot.graph c.args.snap.now) c.args.vars.now.variables c.args.edge.now c.args.args.now c.args.braces.now (out-Item c.args.kept.now)) (λ n. search rules) c.args.nodes.now
+    ∙ none_pass (kept_there (g.S.Snapshot.declared c.args.snap.now) (g.S.Snapshot.graph c.args.snap.now) c.args.vars.now.variables c.args.edge.now c.args.args.now c.args.braces.now (out-Item c.args.kept.now)) (λ n. search rules) c.args.nodes
 
 pub nodes_with_edge-returns-then-not-leads_to_nodes-clause-nodes : goal.nodes_with_edge-returns-then-not-leads_to_nodes-clause-nodes
 nodes_with_edge-returns-then-not-leads_to_nodes-clause-nodes g t c =
@@ -171,7 +171,7 @@ nodes_with_edge-returns-then-not-leads_to_nodes-clause-nodes g t c =
     let e = c.args.edge.now in
     let args = c.args.args.now in
     let braces = c.args.braces.now in
-    let nodes = c.args.nodes.now in
+    let nodes = c.args.nodes in
     let b = c.in-Edge in
     let def : option_copied c.lookup-definition.result ≡ definition_of schema e.pred = c.lookup-definition.ensures ∙ (λ j. definition_of (c.schema.ensures j) (c.as_str.ensures j)) in
     let sort : c.sort_of-sort.result ≡ sort_of (definition_of schema e.pred) e.back = c.sort_of-sort.ensures ∙ (λ j. sort_of (def j) e.back) in
@@ -190,7 +190,7 @@ nodes_with_edge-returns-clause-nodes g t c =
     let e = c.args.edge.now in
     let args = c.args.args.now in
     let braces = c.args.braces.now in
-    let nodes = c.args.nodes.now in
+    let nodes = c.args.nodes in
     let b = c.in-Edge in
     let def : option_copied c.lookup-definition.result ≡ definition_of schema e.pred = c.lookup-definition.ensures ∙ (λ j. definition_of (c.schema.ensures j) (c.as_str.ensures j)) in
     let sort : c.sort_of-sort.result ≡ sort_of (definition_of schema e.pred) e.back = c.sort_of-sort.ensures ∙ (λ j. sort_of (def j) e.back) in
@@ -216,7 +216,7 @@ nodes_with_edge-returns-clause-left g t c = λ dirs fields in_them.
     let e = c.args.edge.now in
     let args = c.args.args.now in
     let braces = c.args.braces.now in
-    let nodes = c.args.nodes.now in
+    let nodes = c.args.nodes in
     let b = c.in-Edge in
     let def : option_copied c.lookup-definition.result ≡ definition_of schema e.pred = c.lookup-definition.ensures ∙ (λ j. definition_of (c.schema.ensures j) (c.as_str.ensures j)) in
     let sort : c.sort_of-sort.result ≡ sort_of (definition_of schema e.pred) e.back = c.sort_of-sort.ensures ∙ (λ j. sort_of (def j) e.back) in
@@ -230,4 +230,4 @@ nodes_with_edge-returns-clause-left g t c = λ dirs fields in_them.
     c.in_ok-below.ensures.nodes ∙ (λ j. filter (planned_there schema graph vars braces (c.as_slice-5.ensures j)) c.in_ok-level.level) in
     let inside : AreLeft schema graph vars braces b.inner c.in_ok-below.below.nodes c.in_ok-below.below.inside =
     subst (λ (ks : List Kept). AreLeft schema graph vars braces ks c.in_ok-below.below.nodes c.in_ok-below.below.inside) c.as_slice-5.ensures c.in_ok-below.ensures.inside in
-    learned schema graph vars e args dirs fields braces c.args.kept.now b.orders b.filters b.inner nodes c.in_ok-level.level c.in_ok-below.below.nodes c.in_ok-below.below.inside in_them b.is level whole inside
+    learned schema graph vars e args dirs fields braces c.args.kept.now b.orders b.filters b.inner nodes c.from_vec.result c.in_ok-level.level c.in_ok-below.below.nodes c.in_ok-below.below.inside in_them b.is (c.from_vec.ensures ∙ lists) level whole inside

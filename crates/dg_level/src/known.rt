@@ -1,0 +1,85 @@
+// The lists of the nodes of a level, where they are known.
+ghost use Rattle.std.specs.Prelude.{◌≡◌, ℕ, List as Items, Some, map, slice_get, IfOk, IfSome};
+ghost use Rattle.dg_level.specs.Left.{KnowsLists};
+ghost use Rattle.dg_level.specs.Levels.{list_of};
+
+use crate::left::Left;
+use crate::lists::{list_at, lists_of};
+use dg_check::{Filter, OrderKey, Vars};
+use dg_graph::Snapshot;
+use dg_parse::{QArg, QEdge};
+use dg_sets::place_of;
+use dg_uids::Uids;
+use dg_values::{List, Mem, OutOfMemory, Steps};
+use std::alloc::Global;
+use std::sync::ledger::Ledger;
+
+// The place of a node in a set, if it is there.
+fn place_among(of: &Uids, node: u64) -> Option<usize>
+    ensures { IfSome result (λ place. slice_get of.now place ≡ Some node) }
+{
+    match place_of(of.as_slice(), &node) {
+        Ok(place) => Some(place),
+        Err(_) => None,
+    }
+}
+
+// An equal list.
+fn copied(alloc: Global, list: &[u64]) -> Mem<List<u64>>
+    ensures { IfOk result (λ made. made ≡ list.now) }
+{
+    Ok(List::from_vec(Vec::from_slice(alloc, list)?))
+}
+
+// The list of each node, where those of the nodes of a set are known and all are in it.
+fn lists_among(
+    alloc: Global,
+    of: &Uids,
+    lists: &[List<u64>],
+    nodes: &[u64],
+) -> Mem<Option<Vec<List<u64>>>>
+    ensures { (list : ℕ → Items ℕ) → lists.now ≡ map list of.now → IfOk result (λ found. IfSome found (λ made. made.items ≡ map list nodes.now)) }
+{
+    let mut made = Vec::new(alloc);
+    for node in nodes {
+        match place_among(of, *node) {
+            None => return Ok(None),
+            Some(place) => made.push(copied(alloc, list_at(lists, place))?)?,
+        }
+    }
+    Ok(Some(made))
+}
+
+// The list of each node of a level, where they are known.
+fn known_lists(alloc: Global, left: &Left, nodes: &[u64]) -> Mem<Option<Vec<List<u64>>>>
+    ensures { (list : ℕ → Items ℕ) → KnowsLists list left.now → IfOk result (λ found. IfSome found (λ made. made.items ≡ map list nodes.now)) }
+{
+    match left {
+        Left::Unknown => Ok(None),
+        Left::Nodes { of, lists, .. } => lists_among(alloc, of, lists.as_slice(), nodes),
+    }
+}
+
+/// The list of each node of a level: what is known of all of them isn't read again. The error is want of memory.
+pub fn lists_under<S: Snapshot, L: Ledger>(
+    alloc: Global,
+    snap: &S,
+    single: bool,
+    edge: &QEdge,
+    args: &[QArg],
+    orders: &[OrderKey],
+    filters: &[Filter],
+    vars: &Vars,
+    nodes: &[u64],
+    left: &Left,
+    reads: &mut Steps<L>,
+) -> Mem<Vec<List<u64>>>
+    ensures { KnowsLists (list_of (S.graph snap.now) vars.now.variables edge.now args.now orders.now filters.now single) left.now → IfOk result (λ lists. lists.items ≡ map (list_of (S.graph snap.now) vars.now.variables edge.now args.now orders.now filters.now single) nodes.now) }
+{
+    match known_lists(alloc, left, nodes)? {
+        Some(lists) => Ok(lists),
+        None => lists_of(
+            alloc, snap, single, edge, args, orders, filters, vars, nodes, reads,
+        ),
+    }
+}
