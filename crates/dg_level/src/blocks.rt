@@ -12,9 +12,9 @@ ghost use Rattle.dg_level.specs.Left.{AreLeftAt};
 ghost use Rattle.dg_level.specs.Planned.{planned_keys};
 ghost use Rattle.dg_level.specs.PlannedBlocks.{planned_root, planned_nodes};
 
+use crate::Rows;
 use crate::directives::{cascades, normalizes};
 use crate::flat_arrays::flat_array;
-use crate::Rows;
 use crate::keys::counts_of;
 use crate::left::Left;
 use crate::levels::known_rows;
