@@ -7,7 +7,6 @@ use Rattle.dg_values.specs.Ascending.{ascending, has}
 use Rattle.dg_values.specs.declared.kind.Kind.{Kind}
 use Rattle.dg_values.specs.declared.kind.Kind.TheVariants as kinds
 use Rattle.dg_values.specs.declared.value.Posting.{Posting}
-use Rattle.dg_values.specs.declared.value.Value.{Value}
 use Rattle.std.proofs.lemmas.List.{take_more}
 use Rattle.dg_sets.proofs.MadeOrders.{nat_order}
 use Rattle.dg_sets.proofs.Sets.{is_itself, has_joined, has_passed}
@@ -29,7 +28,7 @@ use Rattle.dg_funcs.proofs.PassLaws.{or_true, and_true, filter_same, filter_twic
 use Rattle.dg_tree.specs.declared.tree.Tree.{Tree}
 use Rattle.dg_level.specs.declared.sorts.Sort.{Sort}
 use Rattle.dg_level.specs.declared.sorts.Sort.TheVariants as sorts
-use Rattle.dg_level.specs.Answers.{values_shown, shown}
+use Rattle.dg_level.specs.Answers.{shown}
 use Rattle.dg_level.specs.Shown.{sort_of_kind, sort_of, remaining, some_trees, edge_there}
 use Rattle.dg_level.specs.Planned.{is_single, planned_there}
 use Rattle.dg_level.specs.Levels.{planned_item, list_of, leads_to_nodes, kept_there}
@@ -79,15 +78,6 @@ all_pass p e nodes = sym ((λ i. filter (λ n. e n i) nodes) ∙ filter_true nod
 pub some_there : (tree : Option Tree) → is_some tree ≡ some_trees (option_to_list tree)
 some_there None = refl
 some_there (Some tree) = refl
-
--- values show something where there are any
-pub shown_some : (list : Bool) (values : List Value) → 0 < length values → true ≡ some_trees (values_shown list values)
-shown_some list [] e = absurd (omega (arith, e))
-shown_some true (value ∷ values) e = refl
-shown_some false (value ∷ values) e = refl
-
-pub shown_none : (list : Bool) (values : List Value) → values ≡ [] → false ≡ some_trees (values_shown list values)
-shown_none list values e = λ i. some_trees (values_shown list (sym e i))
 
 -- a node stands behind others where it passes, and doesn't where it doesn't
 pub noted : (p : ℕ → Bool) (found : List ℕ) (node : ℕ) → true ≡ p node → found ++ node ∷ [] ≡ found ++ filter p (node ∷ [])
