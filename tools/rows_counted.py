@@ -144,6 +144,15 @@ def level_rows() -> Iterator[tuple[str, str]]:
     below = f'{{"friend":[{below},{below}]}}'
     yield counted(f"{{ {head} @cascade {{ friend {{ friend {{ uid }} }} }} }}", block(below, below), by_token=2, objects=2 + 2)
     yield counted(f"{{ {head} {{ friend @cascade {{ friend {{ uid }} }} }} }}", block(below, below), by_token=2, objects=2 + 2)
+    yield "# So are values, with flat objects too: 4, 4 and 2 calls as above, 4 and 2, and 2, 4 and 2. Of a node that is dropped, as it has no age, the", ""
+    yield "# edge isn't followed: two ages, one edge, two ages.", ""
+    yield counted(f"{{ {head} @cascade {{ name friend {{ name friend {{ name }} }} }} }}", shown, by_token=2, objects=4 + 4 + 2)
+    pairs = block(*(f'{{"n":"{name}","m":"{child}"}}' for name in ("Ann", "Bob") for child in ("Cid", "Dan")))
+    yield counted(f"{{ {head} @cascade @normalize {{ n: name friend {{ m: name }} }} }}", pairs, by_token=2, objects=4 + 2)
+    below = f'{{"friend":[{{"name":"Cid",{last}}},{{"name":"Dan",{last}}}]}}'
+    yield counted(f"{{ {head} {{ friend @cascade {{ name friend {{ name }} }} }} }}", block(below, below), by_token=2, objects=2 + 4 + 2)
+    query = '{ q(func: eq(name, ["Ann", "Eve"])) @cascade { age friend { age } } }'
+    yield counted(query, block('{"age":3,"friend":[{"age":5},{"age":8}]}'), by_token=2, objects=2 + 1 + 2)
     yield "# For a variable the edge is followed in a block that isn't shown; a block that is shown is run once more for its text.", ""
     query = '{ var(func: eq(name, ["Ann", "Bob"])) { name f as friend { name } } q(func: uid(f)) { name } }'
     yield counted(query, block('{"name":"Cid"}', '{"name":"Dan"}'), by_token=2, objects=2 + 2)
@@ -211,7 +220,7 @@ def cascade_rows() -> Iterator[tuple[str, str]]:
     """Cascades over the same graph, along ten lists of one node each."""
     yield "# A cascade reads each of ten lists once, as if there were none: to find what is left, and what is shown reads none again. So it is", ""
     yield "# where the block has it, with flat objects too, and where its first edge has it.", ""
-    yield "# Where nothing is left no list is read twice: 1, 30 and 30 lists, and the values of 30 nodes.", ""
+    yield "# Where nothing is left no list is read twice: 1, 30 and 30 lists. What isn't declared has no values to be read.", ""
     below, shown = "uid", uids(1)[0]
     for _ in range(10):
         below = f"next (first: 1) {{ {below} }}"
@@ -221,7 +230,7 @@ def cascade_rows() -> Iterator[tuple[str, str]]:
     yield counted(f"{{ q(func: uid(0x1)) {{ {edge} }} }}", block(shown), objects=1 + 9)
     flat = below.replace("uid", "u: uid")
     yield counted(f"{{ q(func: uid(0x1)) @cascade @normalize {{ {flat} }} }}", block('{"u":"0x1"}'), objects=10)
-    yield counted("{ q(func: uid(0x1)) @cascade { next { next { next { none } } } } }", block(), objects=1 + 30 + 30 + 30)
+    yield counted("{ q(func: uid(0x1)) @cascade { next { next { next { none } } } } }", block(), objects=1 + 30 + 30)
 
 
 def rows() -> Iterator[tuple[str, str]]:

@@ -3,6 +3,7 @@ use Rattle.std.proofs.Common.{◌≡◌, ℕ, zero, suc, ◌+◌, ◌<◌, ◌�
 use Rattle.std.specs.Prelude.{◌&&◌, ◌||◌}
 use Rattle.std.specs.Ordering.{nat_cmp, is_eq}
 use Rattle.std.proofs.lemmas.Option.{slice_get_read}
+use Rattle.dg_values.specs.declared.value.Value.{Value}
 use Rattle.dg_values.specs.Ascending.{ascending, has}
 use Rattle.dg_sets.proofs.MadeOrders.{nat_order}
 use Rattle.dg_sets.proofs.Sets.{is_itself, is_one, has_joined, has_passed}
@@ -27,10 +28,11 @@ use Rattle.dg_funcs.proofs.PassLaws.{or_true, and_true, filter_same}
 use Rattle.dg_level.specs.declared.left.Left.{Left, Left-F}
 use Rattle.dg_level.specs.declared.left.Left.TheVariants as lefts
 use Rattle.dg_level.specs.declared.left.Left.TheViews.{out-Left}
+use Rattle.dg_level.specs.Known.{KnowsLists, values_by, KnowsValues, KnowsItem}
 use Rattle.dg_level.specs.Shown.{sort_of, in_braces}
 use Rattle.dg_level.specs.Planned.{is_single, planned_there}
 use Rattle.dg_level.specs.Levels.{list_of}
-use Rattle.dg_level.specs.Left.{first_left, after_first, TellsWhole, TellsIn, IsLeft, unknown, nodes, AreLeft, IsLeftBelow, KnowsLists, IsLeftOf, IsLeftIn}
+use Rattle.dg_level.specs.Left.{first_left, after_first, TellsWhole, TellsIn, IsLeft, unknown, values, nodes, AreLeft, IsLeftBelow, IsLeftOf, IsLeftIn}
 use Rattle.dg_level.proofs.ListLaws.{ascending_has, map_within}
 
 -- what follows of an answer follows where there is one
@@ -130,10 +132,16 @@ left_here list whole m h = first (has nat_cmp whole m) (has nat_cmp list m) (sym
 
 -- ---- what is known under items
 
+-- nothing tells no values
+pub unknown_values : (f : ℕ → List Value) → KnowsValues f lefts.Unknown
+unknown_values f of all left_is =
+    let g : Left-F.Unknown ≡ Left-F.Values of all = sym lefts.outs-Unknown ∙ (ap out-Left left_is ∙ lefts.outs-Values of all) in absurd (cc)
+
 module _ (schema : List PredDef) (graph : List Triple) (vars : List Variable) where
   -- it is known for fewer nodes too
   pub fewer : (q : QItem) (k : Item) (level more : List ℕ) (left : Left) → ((n : ℕ) → has nat_cmp level n ≡ true → has nat_cmp more n ≡ true) → IsLeft schema graph vars q k more left → IsLeft schema graph vars q k level left
   fewer _ _ level more _ sub (unknown q k _) = unknown q k level
+  fewer _ _ level more _ sub (values e args dirs braces k _ of all read) = values e args dirs braces k level of all read
   fewer _ _ level more _ sub (nodes e args dirs braces orders filters inner _ of lists whole inside tells are read) = nodes e args dirs braces orders filters inner level of lists whole inside (λ n m h k. tells n m (sub n h) k) are read
 
   pub all_fewer : (fields : List QField) (kept : List Kept) (level more : List ℕ) (left : List Left) → ((n : ℕ) → has nat_cmp level n ≡ true → has nat_cmp more n ≡ true) → AreLeft schema graph vars fields kept more left → AreLeft schema graph vars fields kept level left
@@ -150,6 +158,8 @@ module _ (schema : List PredDef) (graph : List Triple) (vars : List Variable) wh
       → IsLeftOf schema graph vars (is_single (sort_of (definition_of schema e.pred) e.back)) e args braces k level left
   of_edge _ _ level _ (unknown q k _) e args dirs braces is orders filters inner kept_is of lists whole inside left_is =
       let f : Left-F.Unknown ≡ Left-F.Nodes of lists whole inside = sym lefts.outs-Unknown ∙ (ap out-Left left_is ∙ lefts.outs-Nodes of lists whole inside) in absurd (cc)
+  of_edge _ _ level _ (values e1 args1 dirs1 braces1 k1 _ of1 all1 read) e args dirs braces is orders filters inner kept_is of lists whole inside left_is =
+      let f : Left-F.Values of1 all1 ≡ Left-F.Nodes of lists whole inside = sym (lefts.outs-Values of1 all1) ∙ (ap out-Left left_is ∙ lefts.outs-Nodes of lists whole inside) in absurd (cc)
   of_edge _ _ level _ (nodes e1 args1 dirs1 braces1 orders1 filters1 inner1 _ of1 lists1 whole1 inside1 tells are read) e args dirs braces is orders filters inner kept_is of lists whole inside left_is =
       let f : QItem-F.Edge e1 args1 dirs1 braces1 ≡ QItem-F.Edge e args dirs (Some braces) = sym (items.outs-Edge e1 args1 dirs1 braces1) ∙ (ap out-QItem is ∙ items.outs-Edge e args dirs (Some braces)) in
       let g : Item-F.Edge orders1 filters1 inner1 ≡ Item-F.Edge orders filters inner = sym (kept.outs-Edge orders1 filters1 inner1) ∙ (ap out-Item kept_is ∙ kept.outs-Edge orders filters inner) in
@@ -173,6 +183,25 @@ module _ (schema : List PredDef) (graph : List Triple) (vars : List Variable) wh
             (are i q k l ((λ j. slice_get (in_braces (same_braces j)) i) ∙ a) ((λ j. slice_get (same_inner j) i) ∙ b) ((λ j. slice_get (same_inside j) i) ∙ c)),
         sym same_lists ∙ (read ∙ (λ i. map (list_of graph vars (same_e i) (same_args i) (same_orders i) (same_filters i) (is_single (sort_of (definition_of schema (same_e i).pred) (same_e i).back))) (same_of i))),
       )
+
+  -- what is known of the values of an edge
+  pub knows_item : (q : QItem) (k : Item) (level : List ℕ) (left : Left) → IsLeft schema graph vars q k level left → KnowsItem graph q left
+  knows_item _ _ level _ (unknown q k _) e args dirs braces is of all left_is =
+      let f : Left-F.Unknown ≡ Left-F.Values of all = sym lefts.outs-Unknown ∙ (ap out-Left left_is ∙ lefts.outs-Values of all) in absurd (cc)
+  knows_item _ _ level _ (values e1 args1 dirs1 braces1 k1 _ of1 all1 read) e args dirs braces is of all left_is =
+      let f : QItem-F.Edge e1 args1 dirs1 braces1 ≡ QItem-F.Edge e args dirs braces = sym (items.outs-Edge e1 args1 dirs1 braces1) ∙ (ap out-QItem is ∙ items.outs-Edge e args dirs braces) in
+      let h : Left-F.Values of1 all1 ≡ Left-F.Values of all = sym (lefts.outs-Values of1 all1) ∙ (ap out-Left left_is ∙ lefts.outs-Values of all) in
+      let same_e : e1 ≡ e = cc in
+      let same_of : of1 ≡ of = cc in
+      let same_all : all1 ≡ all = cc in
+      sym same_all ∙ (read ∙ (λ i. map (values_by graph (same_e i).pred) (same_of i)))
+  knows_item _ _ level _ (nodes e1 args1 dirs1 braces1 orders1 filters1 inner1 _ of1 lists1 whole1 inside1 tells are read) e args dirs braces is of all left_is =
+      let f : Left-F.Nodes of1 lists1 whole1 inside1 ≡ Left-F.Values of all = sym (lefts.outs-Nodes of1 lists1 whole1 inside1) ∙ (ap out-Left left_is ∙ lefts.outs-Values of all) in absurd (cc)
+
+  -- what is learned of values
+  pub learned_values : (e : QEdge) (args : List QArg) (dirs : List QDir) (fields : Option (List QField)) (k : Item) (level of : List ℕ) (all : List (List Value)) (p : List ℕ) → e.pred ≡ p → all ≡ map (values_by graph p) of
+      → IsLeft schema graph vars (items.Edge e args dirs fields) k level (lefts.Values of all)
+  learned_values e args dirs fields k level of all p is read = values e args dirs fields k level of all (read ∙ (λ i. map (values_by graph (sym is i)) of))
 
   -- what is learned under an edge
   pub learned : (e : QEdge) (args : List QArg) (dirs : List QDir) (fields : Option (List QField)) (braces : List QField) (k : Item) (orders : List OrderKey) (filters : List Filter) (inner : List Kept) (ns : List ℕ) (lists : List (List ℕ)) (level whole : List ℕ) (inside : List Left)

@@ -1,5 +1,5 @@
 -- The nodes that a cascade leaves.
-use Rattle.std.proofs.Common.{◌≡◌, ℕ, zero, suc, ◌+◌, ◌<◌, ◌≤◌, Bool, true, false, cond, List, [], ◌∷◌, map, flat_map, drop, length, get_or, refl, sym, ap, ◌∙◌, arith, true≢false}
+use Rattle.std.proofs.Common.{◌≡◌, ℕ, zero, suc, ◌+◌, ◌<◌, ◌≤◌, Bool, true, false, cond, List, [], ◌∷◌, ◌++◌, map, flat_map, take, drop, length, get_or, append-nil, refl, sym, ap, ◌∙◌, arith, true≢false}
 use Rattle.std.specs.Prelude.{◌&&◌, ◌||◌, Option, Some, None, is_some, option_to_list, filter}
 use Rattle.std.specs.List.{list_any}
 use Rattle.std.specs.Ordering.{nat_cmp, is_eq}
@@ -7,6 +7,7 @@ use Rattle.dg_values.specs.Ascending.{ascending, has}
 use Rattle.dg_values.specs.declared.kind.Kind.{Kind}
 use Rattle.dg_values.specs.declared.kind.Kind.TheVariants as kinds
 use Rattle.dg_values.specs.declared.value.Posting.{Posting}
+use Rattle.std.proofs.lemmas.List.{take_more}
 use Rattle.dg_sets.proofs.MadeOrders.{nat_order}
 use Rattle.dg_sets.proofs.Sets.{is_itself, has_joined, has_passed}
 use Rattle.dg_schema.specs.declared.definition.PredDef.{PredDef}
@@ -77,6 +78,26 @@ all_pass p e nodes = sym ((λ i. filter (λ n. e n i) nodes) ∙ filter_true nod
 pub some_there : (tree : Option Tree) → is_some tree ≡ some_trees (option_to_list tree)
 some_there None = refl
 some_there (Some tree) = refl
+
+-- a node stands behind others where it passes, and doesn't where it doesn't
+pub noted : (p : ℕ → Bool) (found : List ℕ) (node : ℕ) → true ≡ p node → found ++ node ∷ [] ≡ found ++ filter p (node ∷ [])
+noted p found node e = λ i. found ++ cond (e i) (node ∷ []) []
+
+pub not_noted : (p : ℕ → Bool) (found : List ℕ) (node : ℕ) → false ≡ p node → found ≡ found ++ filter p (node ∷ [])
+not_noted p found node e = sym (append-nil found) ∙ (λ i. found ++ cond (e i) (node ∷ []) [])
+
+-- one node more, where it passes or doesn't
+pub one_noted : (p : ℕ → Bool) (xs : List ℕ) (i : ℕ) (found more : List ℕ) → i < length xs → found ≡ filter p (take i xs) → more ≡ found ++ filter p (get_or xs i 0 ∷ []) → more ≡ filter p (take (i + 1) xs)
+one_noted p xs i found more lt so_far made =
+    made ∙ ((λ j. so_far j ++ filter p (get_or xs i 0 ∷ [])) ∙ (sym (passed_both (take i xs) (get_or xs i 0 ∷ [])) ∙ ap (filter p) (sym (take_more xs i 0 lt))))
+  where
+    passed_both : (xs bs : List ℕ) → filter p (xs ++ bs) ≡ filter p xs ++ filter p bs
+    passed_both [] bs = refl
+    passed_both (a ∷ xs) bs = by (p a) (passed_both xs bs)
+      where
+        by : (b : Bool) → filter p (xs ++ bs) ≡ filter p xs ++ filter p bs → cond b (a ∷ filter p (xs ++ bs)) (filter p (xs ++ bs)) ≡ cond b (a ∷ filter p xs) (filter p xs) ++ filter p bs
+        by true e = ap (λ l. a ∷ l) e
+        by false e = e
 
 -- ---- what remains
 

@@ -5,7 +5,6 @@ use Rattle.std.specs.Ordering.{nat_cmp}
 use Rattle.dg_values.specs.Ascending.{ascending}
 use Rattle.dg_text.specs.Spelling.{uid_text}
 use Rattle.dg_graph.specs.declared.change.Triple.{Triple}
-use Rattle.dg_graph.specs.Graphs.{objects}
 use Rattle.dg_check.specs.declared.vars.Variable.{Variable}
 use Rattle.dg_check.specs.Vars.{value_at}
 use Rattle.dg_funcs.specs.Truth.{count_along}
@@ -19,7 +18,8 @@ use Rattle.dg_level.specs.declared.column.Content.{Content}
 use Rattle.dg_level.specs.declared.column.Content.TheVariants as contents
 use Rattle.dg_level.specs.declared.sorts.Sort.{Sort}
 use Rattle.dg_level.specs.declared.sorts.Sort.TheVariants as sorts
-use Rattle.dg_level.specs.Answers.{value_tree, value_of, values_shown}
+use Rattle.dg_level.specs.Answers.{value_tree, values_shown}
+use Rattle.dg_level.specs.Known.{values_by, KnowsValues}
 use Rattle.dg_level.specs.Rows.{total, braced, row_text}
 use Rattle.dg_level.specs.Shown.{under, edge_shown}
 
@@ -61,7 +61,7 @@ ShowsBy graph vars nodes contents.Nothing shown = (place n : ℕ) → slice_get 
 ShowsBy graph vars nodes contents.Uid shown = (n : ℕ) → shown n ≡ trees.Text (uid_text n) ∷ []
 ShowsBy graph vars nodes (contents.Count e) shown = (n : ℕ) → shown n ≡ trees.Int (pos (count_along graph e n)) ∷ []
 ShowsBy graph vars nodes (contents.Value place) shown = (n : ℕ) → shown n ≡ map value_tree (option_to_list (value_at vars place n))
-ShowsBy graph vars nodes (contents.Values p list) shown = (n : ℕ) → shown n ≡ values_shown list (flat_map value_of (objects graph p n))
+ShowsBy graph vars nodes (contents.Values p list known) shown = ((n : ℕ) → shown n ≡ values_shown list (values_by graph p n)) × KnowsValues (values_by graph p) known
 ShowsBy graph vars nodes (contents.Nodes below) shown = IsBelow nodes below shown
 
 -- a column shows these fields: trees under its key
@@ -89,7 +89,7 @@ held_by contents.Nothing = 0
 held_by contents.Uid = 0
 held_by (contents.Count e) = 0
 held_by (contents.Value place) = 0
-held_by (contents.Values p list) = 0
+held_by (contents.Values p list known) = 0
 held_by (contents.Nodes below) = total below.rows.rows + length below.rows.begun
 
 -- how many they may have
@@ -98,7 +98,7 @@ room_of contents.Nothing = 0
 room_of contents.Uid = 0
 room_of (contents.Count e) = 0
 room_of (contents.Value place) = 0
-room_of (contents.Values p list) = 0
+room_of (contents.Values p list known) = 0
 room_of (contents.Nodes below) = below.rows.limit
 
 -- how many bytes the trees have that nodes show

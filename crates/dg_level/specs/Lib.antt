@@ -18,6 +18,7 @@ pub mod Laws
 pub mod Keeping
 pub mod Parts
 pub mod Rows
+pub mod Known
 pub mod Columns
 pub mod Keys
 pub mod Levels

@@ -4,6 +4,7 @@ ghost use Rattle.dg_level.specs.Columns.{held_by, room_of};
 ghost use Rattle.dg_level.specs.Rows.{total};
 
 use crate::Rows;
+use crate::left::Left;
 use dg_parse::QEdge;
 use dg_uids::Uids;
 use dg_values::{List, Str};
@@ -40,6 +41,8 @@ pub enum Content {
         pred: Str,
         /// Whether a node may have more than one.
         list: bool,
+        /// What is known of them.
+        known: Left,
     },
     /// Nodes.
     Nodes(Below),

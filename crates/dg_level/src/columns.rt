@@ -8,6 +8,7 @@ ghost use Rattle.dg_level.specs.Answers.{shown};
 ghost use Rattle.dg_level.specs.Rows.{total, row_text};
 ghost use Rattle.dg_level.specs.Planned.{value_kept, planned_field, planned_at};
 ghost use Rattle.dg_level.specs.Columns.{held_by, room_of, bytes_of, IsBelow, ShowsBy, Shows, AreShown};
+ghost use Rattle.dg_level.specs.Known.{values_by, KnowsValues};
 ghost use Rattle.dg_level.specs.Left.{IsLeft, AreLeft, IsLeftUnder, IsLeftBy};
 ghost use Rattle.dg_level.specs.Levels.{trees_of, all_trees, all_fields, below_trees, own_shown, bare_trees, kept_trees, all_bytes};
 
@@ -54,8 +55,9 @@ fn values_content(
     sort: Sort,
     definition: Option<&PredDef>,
     pred: &str,
+    left: Left,
 ) -> Mem<Content>
-    ensures shows { (graph : Items Triple) (vars : Items Known) (nodes : Items ℕ) → IfOk result (λ c. ShowsBy graph vars nodes c (λ n. own_shown sort (shown (option_copied definition.entry) (objects graph pred.now n)))) }
+    ensures shows { (graph : Items Triple) (vars : Items Known) (nodes : Items ℕ) → KnowsValues (values_by graph pred.now) left → IfOk result (λ c. ShowsBy graph vars nodes c (λ n. own_shown sort (shown (option_copied definition.entry) (objects graph pred.now n)))) }
     ensures held { IfOk result (λ c. (held_by c ≡ 0) × (room_of c ≡ 0)) }
 {
     if sort != Sort::Values {
@@ -66,13 +68,20 @@ fn values_content(
         Some(definition) => Ok(Content::Values {
             pred: Str::from_str(alloc, pred)?,
             list: definition.list,
+            known: left,
         }),
     }
 }
 
 // What is shown under an edge without braces. The error is want of memory.
-pub fn bare_content<S: Snapshot>(alloc: Global, snap: &S, edge: &QEdge, kept: &Item) -> Mem<Content>
-    ensures shows { (vars : Items Known) (nodes : Items ℕ) → IfOk result (λ c. ShowsBy (S.graph snap.now) vars nodes c (bare_trees (S.declared snap.now) (S.graph snap.now) edge.now (out-Item kept.now))) }
+pub fn bare_content<S: Snapshot>(
+    alloc: Global,
+    snap: &S,
+    edge: &QEdge,
+    kept: &Item,
+    left: Left,
+) -> Mem<Content>
+    ensures shows { (vars : Items Known) (nodes : Items ℕ) → KnowsValues (values_by (S.graph snap.now) edge.now.pred) left → IfOk result (λ c. ShowsBy (S.graph snap.now) vars nodes c (bare_trees (S.declared snap.now) (S.graph snap.now) edge.now (out-Item kept.now))) }
     ensures held { IfOk result (λ c. (held_by c ≡ 0) × (room_of c ≡ 0)) }
 {
     match kept {
@@ -80,7 +89,7 @@ pub fn bare_content<S: Snapshot>(alloc: Global, snap: &S, edge: &QEdge, kept: &I
         Item::Edge { .. } => {
             let definition = snap.schema().lookup(edge.pred.as_str());
             let sort = sort_of(definition, edge.back);
-            values_content(alloc, sort, definition, edge.pred.as_str())
+            values_content(alloc, sort, definition, edge.pred.as_str(), left)
         }
     }
 }
@@ -99,7 +108,7 @@ pub fn value_content(kept: &Item) -> Content
 /// What the nodes of a level show, each in its own row. Each list is read once for each node of a level and each field, and
 /// the row of a node of the level below is made once, whatever number of nodes lead to it. Where a cascade goes on from above, or
 /// an edge begins one, lists lose the nodes at which a field is missing, before anything is made of these. For that the lists below
-/// are read where a cascade begins; they are known in all levels below then, and aren't read again.
+/// are read where a cascade begins, and values too; they are known in all levels below then, and aren't read again.
 ///
 /// # Errors
 ///
@@ -236,7 +245,7 @@ fn content_of<S: Snapshot, L: Ledger>(
             dirs,
             fields,
         } => match fields {
-            None => Ok(bare_content(alloc, snap, edge, kept)?),
+            None => Ok(bare_content(alloc, snap, edge, kept, left)?),
             Some(braces) => edge_content(
                 alloc,
                 snap,
@@ -287,7 +296,7 @@ fn edge_content<S: Snapshot, L: Ledger>(
     let definition = snap.schema().lookup(edge.pred.as_str());
     let sort = sort_of(definition, edge.back);
     if !leads_to_nodes(sort) {
-        return Ok(values_content(alloc, sort, definition, edge.pred.as_str())?);
+        return Ok(values_content(alloc, sort, definition, edge.pred.as_str(), left)?);
     }
     let below = below_of(
         alloc,

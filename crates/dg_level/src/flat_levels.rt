@@ -133,6 +133,7 @@ fn behind_field<S: Snapshot, L: Ledger>(
             vars,
             nodes,
             made,
+            &left,
             reads,
         );
     }

@@ -4,7 +4,7 @@ ghost use Rattle.std.specs.Vec.Iter.{into_iter_items};
 ghost use Rattle.dg_level.specs.Left.{first_left, after_first};
 
 use dg_uids::Uids;
-use dg_values::List;
+use dg_values::{List, Value};
 use std::vec::IntoIter;
 
 /// What is known under a field for the nodes of a level.
@@ -13,7 +13,14 @@ use std::vec::IntoIter;
 pub enum Left {
     /// Nothing.
     Unknown,
-    /// Of an edge.
+    /// Of an edge to values.
+    Values {
+        /// Nodes whose values were read.
+        of: Uids,
+        /// The values of each of them, in their order.
+        values: List<List<Value>>,
+    },
+    /// Of an edge to nodes.
     Nodes {
         /// Nodes whose lists were read.
         of: Uids,

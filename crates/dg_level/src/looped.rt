@@ -13,6 +13,7 @@ use crate::Rows;
 use crate::column::Content;
 use crate::columns::{bare_content, copy_edge, value_content};
 use crate::keys::key_text;
+use crate::left::Left;
 use crate::lists::{list_at, lists_of};
 use crate::sorts::{is_single, leads_to_nodes, sort_of};
 use crate::writing::push_column;
@@ -54,7 +55,7 @@ fn own_content<S: Snapshot>(alloc: Global, snap: &S, item: &QItem, kept: &Item) 
         QItem::CountUid | QItem::Agg { .. } => Ok(Content::Nothing),
         QItem::Count(edge) => Ok(Content::Count(copy_edge(alloc, edge)?)),
         QItem::Val(_) => Ok(value_content(kept)),
-        QItem::Edge { edge, .. } => bare_content(alloc, snap, edge, kept),
+        QItem::Edge { edge, .. } => bare_content(alloc, snap, edge, kept, Left::Unknown),
     }
 }
 

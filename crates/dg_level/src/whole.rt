@@ -1,21 +1,23 @@
 // The nodes that a cascade leaves: those at which no field is missing.
-ghost use Rattle.std.specs.Prelude.{◌≡◌, ℕ, [], List as Items, Option, map, flat_map, filter, is_some, option_copied, IfOk};
+ghost use Rattle.std.specs.Prelude.{◌≡◌, ℕ, Bool, ◌++◌, ◌∷◌, [], List as Items, Option, map, flat_map, filter, is_some, option_copied, IfOk, OnOk};
 ghost use Rattle.std.specs.List.{list_any};
 ghost use Rattle.std.specs.Ordering.{nat_cmp};
 ghost use Rattle.dg_values.specs.Ascending.{ascending, has};
 ghost use Rattle.dg_graph.specs.Graphs.{objects};
 ghost use Rattle.dg_parse.specs.declared.query.QDir.{QDir};
 ghost use Rattle.dg_parse.specs.declared.query.QItem.TheVariants as items;
+ghost use Rattle.dg_check.specs.declared.vars.Variable.{Variable as Known};
 ghost use Rattle.dg_check.specs.Vars.{value_at};
 ghost use Rattle.dg_check.specs.declared.parts.Item.TheViews.{out-Item};
-ghost use Rattle.dg_level.specs.Answers.{shown};
+ghost use Rattle.dg_level.specs.Answers.{values_shown, shown};
+ghost use Rattle.dg_level.specs.Known.{values_by};
 ghost use Rattle.dg_level.specs.declared.left.Left.TheVariants as lefts;
 ghost use Rattle.dg_level.specs.Left.{TellsIn, IsLeft, AreLeft, IsLeftIn};
 ghost use Rattle.dg_level.specs.Shown.{in_braces, remaining, some_trees};
 ghost use Rattle.dg_level.specs.Planned.{value_there, planned_there};
 ghost use Rattle.dg_level.specs.Levels.{planned_item, kept_there};
 
-use crate::answers::shown;
+use crate::known::values_read;
 use crate::left::Left;
 use crate::lists::{list_at, lists_of, nodes_below};
 use crate::sorts::{is_single, leads_to_nodes, sort_of};
@@ -25,7 +27,7 @@ use dg_graph::Snapshot;
 use dg_parse::{QArg, QEdge, QField, QItem};
 use dg_schema::PredDef;
 use dg_uids::Uids;
-use dg_values::{List, Mem, OutOfMemory, Steps};
+use dg_values::{List, Mem, OutOfMemory, Steps, Value};
 use std::alloc::Global;
 use std::sync::ledger::Ledger;
 
@@ -57,42 +59,6 @@ fn nodes_with_value(alloc: Global, kept: &Item, vars: &Vars, nodes: &Uids) -> Me
         Item::Val(place) => nodes_valued(alloc, vars, *place, nodes),
         Item::Plain | Item::Edge { .. } => Ok(no_nodes(alloc)),
     }
-}
-
-// Whether a node has something to show by a predicate of values.
-fn shows_some<S: Snapshot, L: Ledger>(
-    alloc: Global,
-    snap: &S,
-    definition: Option<&PredDef>,
-    pred: &str,
-    node: u64,
-    reads: &mut Steps<L>,
-) -> Mem<bool>
-    ensures { IfOk result (λ b. b ≡ some_trees (shown (option_copied definition.entry) (objects (S.graph snap.now) pred.now node))) }
-{
-    let objects = snap.objects(alloc, pred, node, reads)?;
-    let tree = shown(alloc, definition, objects)?;
-    Ok(tree.is_some())
-}
-
-// Those that have something to show by it.
-fn nodes_with_values<S: Snapshot, L: Ledger>(
-    alloc: Global,
-    snap: &S,
-    definition: Option<&PredDef>,
-    pred: &str,
-    nodes: &Uids,
-    reads: &mut Steps<L>,
-) -> Mem<Uids>
-    ensures { IfOk result (λ uids. uids ≡ filter (λ n. some_trees (shown (option_copied definition.entry) (objects (S.graph snap.now) pred.now n))) nodes.now) }
-{
-    let mut found = Vec::new(alloc);
-    for node in nodes.as_slice() {
-        if shows_some(alloc, snap, definition, pred, *node, reads)? {
-            found.push(*node)?;
-        }
-    }
-    Ok(Uids::gathered(found))
 }
 
 // Whether a list has one of these nodes.
@@ -141,6 +107,67 @@ fn with_nodes(nodes: Uids) -> With
     With {
         nodes,
         left: Left::Unknown,
+    }
+}
+
+// Whether values show something.
+fn shows_some(values: &[Value]) -> bool
+    ensures { (list : Bool) → result ≡ some_trees (values_shown list values.now) }
+{
+    !values.is_empty()
+}
+
+// Adds a node and its values to others, where it has any.
+fn note(found: &mut Vec<u64>, all: &mut List<List<Value>>, node: u64, values: Vec<Value>) -> Mem<()>
+    ensures found { (list : Bool) (f : ℕ → Items Value) → values.items ≡ f node → OnOk result (found.new.items ≡ found.old.items ++ filter (λ n. some_trees (values_shown list (f n))) (node ∷ [])) }
+    ensures all { (f : ℕ → Items Value) → values.items ≡ f node → all.old ≡ map f found.old.items → OnOk result (all.new ≡ map f found.new.items) }
+{
+    if !shows_some(values.as_slice()) {
+        return Ok(());
+    }
+    found.push(node)?;
+    Ok(all.push(List::from_vec(values))?)
+}
+
+// Those that have values by a predicate, and these.
+fn nodes_read<S: Snapshot, L: Ledger>(
+    alloc: Global,
+    snap: &S,
+    pred: &str,
+    nodes: &Uids,
+    reads: &mut Steps<L>,
+) -> Mem<With>
+    ensures nodes { (list : Bool) → IfOk result (λ with. with.nodes ≡ filter (λ n. some_trees (values_shown list (values_by (S.graph snap.now) pred.now n))) nodes.now) }
+    ensures left { (schema : Items PredDef) (vars : Items Known) (e : QEdge) (args : Items QArg) (dirs : Items QDir) (fields : Option (Items QField)) (k : Item) → e.pred ≡ pred.now → IfOk result (λ with. IsLeft schema (S.graph snap.now) vars (items.Edge e args dirs fields) k nodes.now with.left) }
+{
+    let mut found = Vec::new(alloc);
+    let mut values = List::new(alloc);
+    for node in nodes.as_slice() {
+        let here = values_read(alloc, snap, pred, *node, reads)?;
+        note(&mut found, &mut values, *node, here)?;
+    }
+    let of = Uids::gathered(found);
+    Ok(With {
+        nodes: of.copy(alloc)?,
+        left: Left::Values { of, values },
+    })
+}
+
+// Those that have something to show by it, and what is known of them then. What isn't declared shows nothing.
+fn nodes_with_values<S: Snapshot, L: Ledger>(
+    alloc: Global,
+    snap: &S,
+    definition: Option<&PredDef>,
+    pred: &str,
+    nodes: &Uids,
+    reads: &mut Steps<L>,
+) -> Mem<With>
+    ensures nodes { IfOk result (λ with. with.nodes ≡ filter (λ n. some_trees (shown (option_copied definition.entry) (objects (S.graph snap.now) pred.now n))) nodes.now) }
+    ensures left { (schema : Items PredDef) (vars : Items Known) (e : QEdge) (args : Items QArg) (dirs : Items QDir) (fields : Option (Items QField)) (k : Item) → e.pred ≡ pred.now → IfOk result (λ with. IsLeft schema (S.graph snap.now) vars (items.Edge e args dirs fields) k nodes.now with.left) }
+{
+    match definition {
+        None => Ok(with_nodes(no_nodes(alloc))),
+        Some(_) => nodes_read(alloc, snap, pred, nodes, reads),
     }
 }
 
@@ -258,8 +285,7 @@ fn nodes_with_edge<S: Snapshot, L: Ledger>(
     let definition = snap.schema().lookup(edge.pred.as_str());
     let sort = sort_of(definition, edge.back);
     if !leads_to_nodes(sort) {
-        let valued = nodes_with_values(alloc, snap, definition, edge.pred.as_str(), &nodes, reads)?;
-        return Ok(with_nodes(valued));
+        return nodes_with_values(alloc, snap, definition, edge.pred.as_str(), &nodes, reads);
     }
     let lists = lists_of(
         alloc,
@@ -386,7 +412,7 @@ fn whole_below<S: Snapshot, L: Ledger>(
             nodes: whole,
             inside,
         }),
-        Left::Unknown => {
+        Left::Unknown | Left::Values { .. } => {
             let level = nodes_below(alloc, lists)?;
             whole_nodes(alloc, snap, braces, inner, vars, level, reads)
         }

@@ -8,8 +8,9 @@ ghost use Rattle.dg_level.specs.Shown.{under};
 ghost use Rattle.dg_level.specs.Columns.{FieldsOf, TreesOf, number_object, is_alone, IsBelow, ShowsBy, Shows, AreShown, shown_by};
 
 use crate::Rows;
-use crate::answers::{value_tree, values_of, values_shown};
+use crate::answers::{value_tree, values_shown};
 use crate::column::{Below, Column, Content};
+use crate::known::values_under;
 use crate::lists::list_at;
 use dg_check::Vars;
 use dg_funcs::{count_along, value_at};
@@ -134,9 +135,9 @@ pub fn push_column<S: Snapshot, L: Ledger>(
             let tree = tree_of(alloc, value_at(vars, *at, node))?;
             push_tree(rows, key, tree)
         }
-        Content::Values { pred, list } => {
-            let objects = snap.objects(alloc, pred.as_str(), node, reads)?;
-            let tree = values_shown(alloc, *list, values_of(alloc, objects)?)?;
+        Content::Values { pred, list, known } => {
+            let values = values_under(alloc, snap, pred.as_str(), node, known, reads)?;
+            let tree = values_shown(alloc, *list, values)?;
             push_tree(rows, key, tree)
         }
         Content::Nodes(below) => push_nodes(alloc, rows, key, below, place),

@@ -15,6 +15,7 @@ use Rattle.dg_funcs.specs.Truth.{count_along}
 use Rattle.dg_tree.specs.declared.tree.Tree.TheVariants as trees
 use Rattle.dg_level.specs.declared.column.Column.{Column}
 use Rattle.dg_level.specs.declared.left.Left.{Left}
+use Rattle.dg_level.specs.Known.{values_by, KnowsValues}
 use Rattle.dg_level.specs.Left.{first_left, after_first, IsLeft, AreLeft, IsLeftBelow, IsLeftOf, IsLeftIn}
 use Rattle.dg_level.specs.Rows.{total, row_text}
 use Rattle.dg_level.specs.Answers.{shown}
@@ -23,7 +24,7 @@ use Rattle.dg_level.specs.Planned.{PlannedItem, is_single, planned_list, planned
 use Rattle.dg_level.specs.Columns.{FieldsOf, TreesOf, IsBelow, AreShown, ShowsBy, shown_by, held_by, bytes_of}
 use Rattle.dg_level.specs.Keys.{all_count_keys}
 use Rattle.dg_level.specs.Levels.{trees_of, all_trees, all_fields, list_of, left_of, below_trees, leads_to_nodes, own_shown, bare_trees, kept_trees, all_bytes}
-use Rattle.dg_level.proofs.LeftLaws.{in_these, knows_lists, of_edge, next_known, known_behind}
+use Rattle.dg_level.proofs.LeftLaws.{knows_item, in_these, knows_lists, of_edge, next_known, known_behind}
 use Rattle.dg_level.proofs.PlannedLaws.{item_count, shows_none, trees_val, trees_edge, trees_bare, shown_is, trees_within}
 use Rattle.dg_level.proofs.ListLaws.{map_twice}
 use Rattle.dg_level.proofs.ShownLaws.{level_shown, left_short, none_below, held_within}
@@ -158,7 +159,7 @@ content_of-returns-in_ok-bare_content-in-None-clause-shows g t c = λ known.
     let bare : kept_trees schema graph vars b.edge b.args [] (cascades c.args.cascade b.dirs) (out-Item kept) ≡ bare_trees schema graph b.edge (out-Item kept) =
     λ j n. bare_is schema graph vars b.edge b.args (cascades c.args.cascade b.dirs) (out-Item kept) n j in
     subst (λ (shown : TreesOf). ShowsBy graph vars c.args.nodes.now c.in_ok-bare_content-in-None.field-0 shown) (sym (trees_bare schema graph vars item c.args.cascade kept b.edge b.args b.dirs is ∙ bare))
-    (c.in_ok-bare_content-in-None.ensures.shows vars c.args.nodes.now)
+    (c.in_ok-bare_content-in-None.ensures.shows vars c.args.nodes.now (knows_item schema graph vars item kept c.args.nodes.now c.args.left known b.edge b.args b.dirs None is))
 
 pub content_of-returns-in-Some-clause-shows : goal.content_of-returns-in-Some-clause-shows
 content_of-returns-in-Some-clause-shows g t c = λ known.
@@ -182,7 +183,7 @@ content_of-returns-in-Some-clause-shows g t c = λ known.
     λ j. kept_trees schema graph vars b.edge (first j) (second j) (flag j) (out-Item kept) in
     let e : kept_trees schema graph vars b.edge c.as_slice-in-Some.result.now c.as_slice-in-Some-2.result.now c.cascades.result (out-Item kept) ≡ trees_of schema graph vars c.args.cascade item kept =
     read ∙ sym (trees_edge schema graph vars item c.args.cascade kept b.edge b.args b.dirs braces is) in
-    subst (λ (shown : TreesOf). IfOk c.edge_content.result (λ content. ShowsBy graph vars c.args.nodes.now content shown)) e (c.edge_content.ensures.shows of)
+    subst (λ (shown : TreesOf). IfOk c.edge_content.result (λ content. ShowsBy graph vars c.args.nodes.now content shown)) e (c.edge_content.ensures.shows (of, knows_item schema graph vars item kept c.args.nodes.now c.args.left known b.edge b.args b.dirs (Some braces) is))
 
 pub content_of-returns-in-Some-clause-held : goal.content_of-returns-in-Some-clause-held
 content_of-returns-in-Some-clause-held g t c = λ known.
@@ -206,7 +207,7 @@ content_of-returns-in-Some-clause-held g t c = λ known.
     λ j. kept_trees schema graph vars b.edge (first j) (second j) (flag j) (out-Item kept) in
     let e : kept_trees schema graph vars b.edge c.as_slice-in-Some.result.now c.as_slice-in-Some-2.result.now c.cascades.result (out-Item kept) ≡ trees_of schema graph vars c.args.cascade item kept =
     read ∙ sym (trees_edge schema graph vars item c.args.cascade kept b.edge b.args b.dirs braces is) in
-    subst (λ (shown : TreesOf). IfOk c.edge_content.result (λ content. held_by content ≤ bytes_of shown c.args.nodes.now)) e (c.edge_content.ensures.held of)
+    subst (λ (shown : TreesOf). IfOk c.edge_content.result (λ content. held_by content ≤ bytes_of shown c.args.nodes.now)) e (c.edge_content.ensures.held (of, knows_item schema graph vars item kept c.args.nodes.now c.args.left known b.edge b.args b.dirs (Some braces) is))
 
 pub content_of-returns-in-Some-clause-too_large : goal.content_of-returns-in-Some-clause-too_large
 content_of-returns-in-Some-clause-too_large g t c = λ known over.
@@ -230,7 +231,7 @@ content_of-returns-in-Some-clause-too_large g t c = λ known over.
     λ j. kept_trees schema graph vars b.edge (first j) (second j) (flag j) (out-Item kept) in
     let e : kept_trees schema graph vars b.edge c.as_slice-in-Some.result.now c.as_slice-in-Some-2.result.now c.cascades.result (out-Item kept) ≡ trees_of schema graph vars c.args.cascade item kept =
     read ∙ sym (trees_edge schema graph vars item c.args.cascade kept b.edge b.args b.dirs braces is) in
-    subst (λ (shown : TreesOf). c.args.limit < bytes_of shown c.args.nodes.now) e (c.edge_content.ensures.too_large of over)
+    subst (λ (shown : TreesOf). c.args.limit < bytes_of shown c.args.nodes.now) e (c.edge_content.ensures.too_large (of, knows_item schema graph vars item kept c.args.nodes.now c.args.left known b.edge b.args b.dirs (Some braces) is) over)
 
 -- ---- edges
 
@@ -248,7 +249,7 @@ edge_content-returns-then-not-leads_to_nodes-clause-shows g t c = λ known.
     λ j n. own_shown (sort j) (shown (def j) (objects graph (c.as_str-then-not-leads_to_nodes.ensures j) n)) in
     let own : kept_trees schema graph vars e c.args.args.now c.args.braces.now c.args.cascade (out-Item c.args.kept.now) ≡ (λ (n : ℕ). own_shown (sort_of (definition_of schema e.pred) e.back) (shown (definition_of schema e.pred) (objects graph e.pred n))) =
     λ j n. own_trees schema graph vars e c.args.args.now c.args.cascade c.args.braces.now c.args.kept.now c.in-Edge.orders c.in-Edge.filters c.in-Edge.inner c.in-Edge.is n none j in
-    subst (λ (trees : TreesOf). ShowsBy graph vars c.args.nodes.now c.in_ok-values_content.field-0 trees) (read ∙ sym own) (c.in_ok-values_content.ensures.shows graph vars c.args.nodes.now)
+    subst (λ (trees : TreesOf). ShowsBy graph vars c.args.nodes.now c.in_ok-values_content.field-0 trees) (read ∙ sym own) (c.in_ok-values_content.ensures.shows graph vars c.args.nodes.now (subst (λ (p : List ℕ). KnowsValues (values_by graph p) c.args.left) (sym c.as_str-then-not-leads_to_nodes.ensures) known.1))
 
 pub edge_content-returns-in_err-below-clause-too_large : goal.edge_content-returns-in_err-below-clause-too_large
 edge_content-returns-in_err-below-clause-too_large g t c = λ known over.
@@ -265,7 +266,7 @@ edge_content-returns-in_err-below-clause-too_large g t c = λ known over.
     sym (λ j. list_of graph vars e args (c.as_slice-2.ensures j) (c.as_slice-3.ensures j) ((c.is_single.ensures ∙ ap is_single sort) j)) in
     let under : IsLeftBelow schema graph vars (list_of graph vars e args c.as_slice-2.result.now c.as_slice-3.result.now c.is_single.result) braces c.as_slice.result.now c.args.nodes.now c.args.left =
     subst (λ (ks : List Kept). IsLeftBelow schema graph vars (list_of graph vars e args c.as_slice-2.result.now c.as_slice-3.result.now c.is_single.result) braces ks c.args.nodes.now c.args.left) (sym c.as_slice.ensures)
-    (subst (λ (lists : ℕ → List ℕ). IsLeftBelow schema graph vars lists braces b.inner c.args.nodes.now c.args.left) same_list (known b.orders b.filters b.inner b.is)) in
+    (subst (λ (lists : ℕ → List ℕ). IsLeftBelow schema graph vars lists braces b.inner c.args.nodes.now c.args.left) same_list (known.0 b.orders b.filters b.inner b.is)) in
     let yes : c.leads_to_nodes.result ≡ true = search rules in
     let some : leads_to_nodes (sort_of (definition_of schema e.pred) e.back) ≡ true = sym (c.leads_to_nodes.ensures ∙ ap leads_to_nodes sort) ∙ yes in
     let below : kept_trees schema graph vars e args braces c.args.cascade (out-Item c.args.kept.now) ≡ below_trees schema graph vars e args c.in-Edge.orders c.in-Edge.filters braces c.in-Edge.inner (is_single (sort_of (definition_of schema e.pred) e.back)) c.args.cascade =
@@ -289,7 +290,7 @@ edge_content-returns-then-shows_none-clause-shows g t c = λ known place n at.
     sym (λ j. list_of graph vars e args (c.as_slice-2.ensures j) (c.as_slice-3.ensures j) ((c.is_single.ensures ∙ ap is_single sort) j)) in
     let under : IsLeftBelow schema graph vars (list_of graph vars e args c.as_slice-2.result.now c.as_slice-3.result.now c.is_single.result) braces c.as_slice.result.now c.args.nodes.now c.args.left =
     subst (λ (ks : List Kept). IsLeftBelow schema graph vars (list_of graph vars e args c.as_slice-2.result.now c.as_slice-3.result.now c.is_single.result) braces ks c.args.nodes.now c.args.left) (sym c.as_slice.ensures)
-    (subst (λ (lists : ℕ → List ℕ). IsLeftBelow schema graph vars lists braces b.inner c.args.nodes.now c.args.left) same_list (known b.orders b.filters b.inner b.is)) in
+    (subst (λ (lists : ℕ → List ℕ). IsLeftBelow schema graph vars lists braces b.inner c.args.nodes.now c.args.left) same_list (known.0 b.orders b.filters b.inner b.is)) in
     let yes : c.leads_to_nodes.result ≡ true = search rules in
     let some : leads_to_nodes (sort_of (definition_of schema e.pred) e.back) ≡ true = sym (c.leads_to_nodes.ensures ∙ ap leads_to_nodes sort) ∙ yes in
     let below : kept_trees schema graph vars e args braces c.args.cascade (out-Item c.args.kept.now) ≡ below_trees schema graph vars e args c.in-Edge.orders c.in-Edge.filters braces c.in-Edge.inner (is_single (sort_of (definition_of schema e.pred) e.back)) c.args.cascade =
@@ -314,7 +315,7 @@ edge_content-returns-clause-shows g t c = λ known.
     sym (λ j. list_of graph vars e args (c.as_slice-2.ensures j) (c.as_slice-3.ensures j) ((c.is_single.ensures ∙ ap is_single sort) j)) in
     let under : IsLeftBelow schema graph vars (list_of graph vars e args c.as_slice-2.result.now c.as_slice-3.result.now c.is_single.result) braces c.as_slice.result.now c.args.nodes.now c.args.left =
     subst (λ (ks : List Kept). IsLeftBelow schema graph vars (list_of graph vars e args c.as_slice-2.result.now c.as_slice-3.result.now c.is_single.result) braces ks c.args.nodes.now c.args.left) (sym c.as_slice.ensures)
-    (subst (λ (lists : ℕ → List ℕ). IsLeftBelow schema graph vars lists braces b.inner c.args.nodes.now c.args.left) same_list (known b.orders b.filters b.inner b.is)) in
+    (subst (λ (lists : ℕ → List ℕ). IsLeftBelow schema graph vars lists braces b.inner c.args.nodes.now c.args.left) same_list (known.0 b.orders b.filters b.inner b.is)) in
     let yes : c.leads_to_nodes.result ≡ true = search rules in
     let some : leads_to_nodes (sort_of (definition_of schema e.pred) e.back) ≡ true = sym (c.leads_to_nodes.ensures ∙ ap leads_to_nodes sort) ∙ yes in
     let below : kept_trees schema graph vars e args braces c.args.cascade (out-Item c.args.kept.now) ≡ below_trees schema graph vars e args c.in-Edge.orders c.in-Edge.filters braces c.in-Edge.inner (is_single (sort_of (definition_of schema e.pred) e.back)) c.args.cascade =
@@ -338,7 +339,7 @@ edge_content-returns-clause-held g t c = λ known.
     sym (λ j. list_of graph vars e args (c.as_slice-2.ensures j) (c.as_slice-3.ensures j) ((c.is_single.ensures ∙ ap is_single sort) j)) in
     let under : IsLeftBelow schema graph vars (list_of graph vars e args c.as_slice-2.result.now c.as_slice-3.result.now c.is_single.result) braces c.as_slice.result.now c.args.nodes.now c.args.left =
     subst (λ (ks : List Kept). IsLeftBelow schema graph vars (list_of graph vars e args c.as_slice-2.result.now c.as_slice-3.result.now c.is_single.result) braces ks c.args.nodes.now c.args.left) (sym c.as_slice.ensures)
-    (subst (λ (lists : ℕ → List ℕ). IsLeftBelow schema graph vars lists braces b.inner c.args.nodes.now c.args.left) same_list (known b.orders b.filters b.inner b.is)) in
+    (subst (λ (lists : ℕ → List ℕ). IsLeftBelow schema graph vars lists braces b.inner c.args.nodes.now c.args.left) same_list (known.0 b.orders b.filters b.inner b.is)) in
     let yes : c.leads_to_nodes.result ≡ true = search rules in
     let some : leads_to_nodes (sort_of (definition_of schema e.pred) e.back) ≡ true = sym (c.leads_to_nodes.ensures ∙ ap leads_to_nodes sort) ∙ yes in
     let below : kept_trees schema graph vars e args braces c.args.cascade (out-Item c.args.kept.now) ≡ below_trees schema graph vars e args c.in-Edge.orders c.in-Edge.filters braces c.in-Edge.inner (is_single (sort_of (definition_of schema e.pred) e.back)) c.args.cascade =

@@ -25,7 +25,7 @@ use Rattle.dg_level.specs.Levels.{list_of, left_of, leads_to_nodes}
 use Rattle.dg_level.specs.Flats.{weight_in}
 use Rattle.dg_level.specs.FlatLevels.{FlatsOf, weight_of, own_trees, with_own, sort_in, list_flats, behind_edge, behind_item, behind_field, behind_fields}
 use Rattle.dg_level.proofs.ListLaws.{map_twice}
-use Rattle.dg_level.proofs.LeftLaws.{in_these, knows_lists, of_edge, next_known, known_behind}
+use Rattle.dg_level.proofs.LeftLaws.{knows_item, in_these, knows_lists, of_edge, next_known, known_behind}
 use Rattle.dg_level.proofs.FlatCounts.{filled_weight}
 use Rattle.dg_level.proofs.FlatTurns.{written_back}
 use Rattle.dg_level.proofs.FlatSums.{sums_within, none_of, filled_sum, below_within}
@@ -136,7 +136,7 @@ behind_field-returns-then-not-leads_to_nodes-clause-flats g t c = λ known f bef
     let after : FlatsOf = λ n. behind_field schema graph vars c.args.cascade q k n (f n) in
     let made : FlatsOf = λ n. with_own q.alias (own_trees schema graph vars (out-QItem q.item) (out-Item k.item) n) (f n) in
     let same : after ≡ made = λ j n. field_alone schema graph vars q c.args.cascade k n (f n) none j in
-    subst (λ (h : FlatsOf). IfOk c.behind_own.result (λ v. v.items ≡ map h c.args.nodes.now)) (sym same) (c.behind_own.ensures.flats f before)
+    subst (λ (h : FlatsOf). IfOk c.behind_own.result (λ v. v.items ≡ map h c.args.nodes.now)) (sym same) (c.behind_own.ensures.flats (knows_item schema graph vars q.item k.item c.args.nodes.now c.args.left known) f before)
 
 pub behind_field-returns-then-not-leads_to_nodes-clause-too_large : goal.behind_field-returns-then-not-leads_to_nodes-clause-too_large
 behind_field-returns-then-not-leads_to_nodes-clause-too_large g t c = λ known f before has over.
@@ -150,7 +150,7 @@ behind_field-returns-then-not-leads_to_nodes-clause-too_large g t c = λ known f
     let after : FlatsOf = λ n. behind_field schema graph vars c.args.cascade q k n (f n) in
     let made : FlatsOf = λ n. with_own q.alias (own_trees schema graph vars (out-QItem q.item) (out-Item k.item) n) (f n) in
     let same : after ≡ made = λ j n. field_alone schema graph vars q c.args.cascade k n (f n) none j in
-    subst (λ (h : FlatsOf). 16777216 < weight_of h c.args.nodes.now) (sym same) (c.behind_own.ensures.too_large f before over)
+    subst (λ (h : FlatsOf). 16777216 < weight_of h c.args.nodes.now) (sym same) (c.behind_own.ensures.too_large (knows_item schema graph vars q.item k.item c.args.nodes.now c.args.left known) f before over)
 
 pub behind_field-returns-clause-flats : goal.behind_field-returns-clause-flats
 behind_field-returns-clause-flats g t c = λ known f before.

@@ -153,10 +153,7 @@ nodes_with_edge-returns-in_default-clause-left g t c = λ dirs fields in_them.
 
 pub nodes_with_edge-returns-then-not-leads_to_nodes-clause-left : goal.nodes_with_edge-returns-then-not-leads_to_nodes-clause-left
 nodes_with_edge-returns-then-not-leads_to_nodes-clause-left g t c = λ dirs fields in_them.
-    let schema = g.S.Snapshot.declared c.args.snap.now in
-    let graph = g.S.Snapshot.graph c.args.snap.now in
-    let q = items.Edge c.args.edge.now c.args.args.now dirs fields in
-    subst (λ (l : Left). IsLeft schema graph c.args.vars.now.variables q c.args.kept.now c.args.nodes l) (sym c.with_nodes-then-not-leads_to_nodes.ensures.1) (unknown q c.args.kept.now c.args.nodes)
+    c.nodes_with_values.ensures.left (g.S.Snapshot.declared c.args.snap.now) c.args.vars.now.variables c.args.edge.now c.args.args.now dirs fields c.args.kept.now (sym c.as_str-then-not-leads_to_nodes.ensures)
 
 pub nodes_with_edge-returns-in_default-clause-nodes : goal.nodes_with_edge-returns-in_default-clause-nodes
 nodes_with_edge-returns-in_default-clause-nodes g t c =
@@ -180,7 +177,7 @@ nodes_with_edge-returns-then-not-leads_to_nodes-clause-nodes g t c =
     let left : filter (λ n. some_trees (shown (option_copied c.lookup-definition.result) (objects graph c.as_str-then-not-leads_to_nodes.result.now n))) nodes ≡ filter (kept_there schema graph vars e args braces (out-Item c.args.kept.now)) nodes =
     (λ j. filter (λ n. some_trees (shown (def j) (objects graph (c.as_str-then-not-leads_to_nodes.ensures j) n))) nodes)
     ∙ values_left schema graph vars e args braces c.args.kept.now b.orders b.filters b.inner b.is none nodes in
-    c.with_nodes-then-not-leads_to_nodes.ensures.0 ∙ (c.in_ok-valued.ensures ∙ left)
+    subst (λ (ns : List ℕ). IfOk c.nodes_with_values.result (λ with. with.nodes ≡ ns)) left c.nodes_with_values.ensures.nodes
 
 pub nodes_with_edge-returns-clause-nodes : goal.nodes_with_edge-returns-clause-nodes
 nodes_with_edge-returns-clause-nodes g t c =
