@@ -15,9 +15,3 @@ pub mod Grammar
 pub mod Conditions
 pub mod Upsert
 pub mod Whole
-pub mod Depth
-pub mod Printed
-pub mod PrintedQuery
-pub mod Printing
-pub mod Laws
-pub mod PrintedUpsert

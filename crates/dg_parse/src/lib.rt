@@ -9,7 +9,6 @@
 mod arguments;
 mod blocks;
 mod conditions;
-mod depth;
 mod directives;
 mod fault;
 mod fields;
@@ -18,12 +17,10 @@ mod fronts;
 mod functions;
 mod items;
 mod keys;
-mod laws;
 mod listed;
 mod literals;
 mod names;
 mod options;
-mod printing;
 mod query;
 mod reading;
 mod slots;
@@ -32,9 +29,7 @@ mod upsert;
 mod upserts;
 mod words;
 
-pub use depth::depth_is_never_met;
 pub use fault::DqlFault;
-pub use laws::{queries_read_back, upserts_read_back};
 pub use query::{
     AggOp, CmpOp, QArg, QBlock, QDir, QEdge, QField, QFilter, QFunc, QItem, QOf, QOpt, QOrder,
     QPart, Query, UidArg,

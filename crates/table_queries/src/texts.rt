@@ -4,6 +4,7 @@ ghost use Rattle.std.specs.Prelude.{◌≤◌, length};
 use crate::MOST;
 use crate::pictures::{pictured, plain};
 use dg_parse::{DqlFault, parse, parse_upsert};
+use dg_print::{query_text, upsert_text};
 use dg_values::Mem;
 use std::alloc::Global;
 use std::fmt::Write;
@@ -15,7 +16,7 @@ fn query_again(alloc: Global, text: &str) -> Mem<String> {
         return Ok(String::from_str(alloc, "long")?);
     }
     match parse(alloc, text) {
-        Ok(query) => query.text_of(alloc),
+        Ok(query) => query_text(alloc, &query),
         Err(fault) => Ok(fault.to_string(alloc)?),
     }
 }
@@ -26,7 +27,7 @@ fn upsert_again(alloc: Global, text: &str) -> Mem<String> {
         return Ok(String::from_str(alloc, "long")?);
     }
     match parse_upsert(alloc, text) {
-        Ok(upsert) => upsert.text_of(alloc),
+        Ok(upsert) => upsert_text(alloc, &upsert),
         Err(fault) => Ok(fault.to_string(alloc)?),
     }
 }
@@ -46,7 +47,7 @@ pub(crate) fn query(alloc: Global, text: &str) -> Mem<Option<String>>
 {
     match parse(alloc, text) {
         Ok(query) => {
-            let text = query.text_of(alloc)?;
+            let text = query_text(alloc, &query)?;
             let again = query_again(alloc, text.as_str())?;
             printed(alloc, text.as_str(), again.as_str())
         }
@@ -60,7 +61,7 @@ pub(crate) fn upsert(alloc: Global, text: &str) -> Mem<Option<String>>
 {
     match parse_upsert(alloc, text) {
         Ok(upsert) => {
-            let text = upsert.text_of(alloc)?;
+            let text = upsert_text(alloc, &upsert)?;
             let again = upsert_again(alloc, text.as_str())?;
             printed(alloc, text.as_str(), again.as_str())
         }
@@ -142,7 +143,7 @@ fn whole_text(alloc: Global, text: &str) -> Mem<Option<String>> {
     }
     match parse(alloc, text) {
         Ok(query) => {
-            let printed = query.text_of(alloc)?;
+            let printed = query_text(alloc, &query)?;
             Ok(Some(format!(in alloc; "read of {bytes}, printed in {}", printed.len())?))
         }
         Err(fault) => {

@@ -1,5 +1,0 @@
-use Rattle.dg_parse.proofs.TextAgain.{query_back}
-use Rattle.dg_parse.proofs.laws.queries_read_back.Goals as goal
-
-pub returns : goal.returns
-returns c = query_back

@@ -1,5 +1,0 @@
-use Rattle.dg_parse.proofs.NestedUpsert.{upsert_back}
-use Rattle.dg_parse.proofs.laws.upserts_read_back.Goals as goal
-
-pub returns : goal.returns
-returns c = upsert_back

@@ -1,9 +1,0 @@
-use Rattle.std.proofs.Common.{◌≡◌, ◌++◌, take}
-use Rattle.dg_text.specs.Spelling.{name_word}
-use Rattle.dg_text.specs.Written.{written}
-use Rattle.dg_parse.specs.Printed.{between_words, shown}
-use Rattle.dg_parse.specs.Printing.{words_in}
-use Rattle.dg_parse.proofs.printing.filters.+printed.Given as goal
-
-abbrev pub invariant-push_joined-loop-place : goal.invariant-push_joined-loop-place
-invariant-push_joined-loop-place l = l.out ≡ l.fn.out ++ written (between_words (name_word l.word) (λ f. words_in l.within (shown f)) (take l.place l.filters))
