@@ -1,11 +1,9 @@
 // Queries that have many of one part.
 ghost use Rattle.std.specs.Prelude.{◌≤◌, string_len, IfOk};
 
+use crate::bench::filling::longer;
 use anyhow::Result;
 use std::alloc::Global;
-
-/// The most bytes that a text has.
-pub const MOST: usize = 1_048_576;
 
 /// What a query has many of.
 #[derive(Clone, Copy)]
@@ -67,18 +65,6 @@ pub fn query(alloc: Global, form: Form, count: u32) -> Result<String>
         text = longer(text, next.as_str())?;
     }
     longer(text, back)
-}
-
-// A text with more at its end, where that fits.
-fn longer(text: String, more: &str) -> Result<String>
-    requires { string_len text ≤ 1048576 }
-    ensures { IfOk result (λ text. string_len text ≤ 1048576) }
-{
-    let mut text = text;
-    if text.len() + more.len() <= MOST {
-        text.push_str(more)?;
-    }
-    Ok(text)
 }
 
 // A part of so many.

@@ -1,30 +1,14 @@
 // Rows of whole trees: what is left of them, and what is shown.
-ghost use Rattle.std.specs.Prelude.{◌≤◌, length};
-
-use crate::trees::trees_of;
-use dg_parse::{DqlFault, QField, Query, parse};
+use crate::asked::query_of;
+use crate::shapes::trees::trees_of;
+use dg_parse::{QField, Query};
 use dg_shape::{cascade, normalize, strip};
 use dg_tree::{Field, Tree, TreeFault, answer_text};
 use dg_values::{List, Mem, OutOfMemory, Str};
 use std::alloc::Global;
 
-// The most bytes that a text has.
-const MOST: usize = 1_048_576;
-
 // The name of each node of a product.
 const NAME: &str = "a name that takes some room in an answer";
-
-// The query of a text, if it is one.
-fn query_of(alloc: Global, text: &str) -> Mem<Option<Query>> {
-    if text.len() > MOST {
-        return Ok(None);
-    }
-    match parse(alloc, text) {
-        Ok(query) => Ok(Some(query)),
-        Err(DqlFault::OutOfMemory) => Err(OutOfMemory),
-        Err(_) => Ok(None),
-    }
-}
 
 // The fields of the first block.
 fn fields_of(query: &Query) -> &[QField] {

@@ -1,29 +1,24 @@
-//! Prints what checking queries costs, for queries of five forms and three sizes.
-//! With the word `time` it prints nanoseconds a part, and the exponent by which the time grows with the number of parts, in
-//! hundredths; without it, what is wrong with small ones.
-#![tactic(auto)]
-
-mod growth;
+// What checking queries costs, for queries of five forms and three sizes.
 mod texts;
 
 ghost use Rattle.std.specs.Prelude.{◌≤◌, length};
 
-use crate::growth::hundredths;
-use crate::texts::{Form, query};
+use crate::bench::checking::texts::{Form, query};
+use crate::bench::growth::hundredths;
 use anyhow::Result;
 use dg_check::{CheckFault, Plan, RegexPatterns, check};
 use dg_parse::parse;
 use dg_schema::{Schema, read_schema};
 use std::alloc::Global;
-use std::env;
 use std::time::{Clock, Instant};
 
 // How often a query is checked, of which the shortest time counts.
 const TURNS: u32 = 5;
 
-fn main(rt: HostRuntime) -> Result<()> {
-    let timed = env::args(&rt)?.skip(1).any(|word| word.as_str() == "time");
-    let schema = declared(rt.alloc());
+// Prints nanoseconds a part, and the exponent by which the time grows with the number of parts, in hundredths; or, without
+// times, what is wrong with small ones.
+pub(crate) fn print_forms(rt: &(impl Print + Clock), alloc: Global, timed: bool) -> Result<()> {
+    let schema = declared(alloc);
     for form in [
         Form::Chain,
         Form::Back,
@@ -32,9 +27,9 @@ fn main(rt: HostRuntime) -> Result<()> {
         Form::Literals,
     ] {
         if timed {
-            print_times(&rt, rt.alloc(), &schema, form)?;
+            print_times(rt, alloc, &schema, form)?;
         } else {
-            print_outcomes(&rt, rt.alloc(), &schema, form)?;
+            print_outcomes(rt, alloc, &schema, form)?;
         }
     }
     Ok(())

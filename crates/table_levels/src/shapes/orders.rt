@@ -1,9 +1,10 @@
 // Rows of lists of nodes: their order and their pages.
+use crate::words::value_of;
 use dg_check::Variable;
 use dg_parse::QArg;
 use dg_shape::{Key, order, page};
 use dg_uids::Uids;
-use dg_values::{Kind, List, Mem, OutOfMemory, Value, ValueFault, read_value};
+use dg_values::{List, Mem, Value};
 use std::alloc::Global;
 
 // The nodes of a field, in the order of the row.
@@ -30,28 +31,11 @@ fn joined(alloc: Global, nodes: &[u64]) -> Mem<String> {
     Ok(text)
 }
 
-fn kind_of(word: &str) -> Option<Kind> {
-    match word {
-        "int" => Some(Kind::Int),
-        "text" => Some(Kind::Text),
-        "bool" => Some(Kind::Bool),
-        "time" => Some(Kind::Time),
-        _ => None,
-    }
-}
-
-// The value of a text of a kind, as `int:5`.
-fn value_of(alloc: Global, word: &str) -> Mem<Option<Value>> {
-    let Some((kind, text)) = word.split_once(':') else {
-        return Ok(None);
-    };
-    let Some(kind) = kind_of(kind) else {
-        return Ok(None);
-    };
-    match read_value(alloc, kind, text) {
-        Ok(value) => Ok(Some(value)),
-        Err(ValueFault::BadLiteral) => Ok(None),
-        Err(ValueFault::OutOfMemory) => Err(OutOfMemory),
+// The value of a word, as `int:5`.
+fn value_in(alloc: Global, word: &str) -> Mem<Option<Value>> {
+    match word.split_once(':') {
+        Some((kind, text)) => value_of(alloc, kind, text),
+        None => Ok(None),
     }
 }
 
@@ -61,7 +45,7 @@ fn pair_of(alloc: Global, word: &str) -> Mem<Option<(u64, Value)>> {
         return Ok(None);
     };
     match node.parse::<u64>() {
-        Ok(node) => Ok(value_of(alloc, value)?.map(|value| (node, value))),
+        Ok(node) => Ok(value_in(alloc, value)?.map(|value| (node, value))),
         Err(_) => Ok(None),
     }
 }

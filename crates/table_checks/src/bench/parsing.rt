@@ -1,26 +1,22 @@
-//! Prints what reading queries costs, for queries of five forms, each of a quarter, a half and all of a MiB.
-//! With the word `time` it prints tenths of a nanosecond a byte, and the exponent by which the time grows with the text, in
-//! hundredths; without it, whether they were read.
-#![tactic(auto)]
-
-mod growth;
+// What reading queries costs, for queries of five forms, each of a quarter, a half and all of a MiB.
 mod texts;
 
 ghost use Rattle.std.specs.Prelude.{◌≤◌, length};
 
-use crate::growth::hundredths;
-use crate::texts::{Form, MOST, query};
+use crate::MOST;
+use crate::bench::growth::hundredths;
+use crate::bench::parsing::texts::{Form, query};
 use anyhow::Result;
 use dg_parse::parse;
 use std::alloc::Global;
-use std::env;
 use std::time::{Clock, Instant};
 
 // How often a text is read, of which the shortest time counts.
 const TURNS: u32 = 5;
 
-fn main(rt: HostRuntime) -> Result<()> {
-    let timed = env::args(&rt)?.skip(1).any(|word| word.as_str() == "time");
+// Prints tenths of a nanosecond a byte, and the exponent by which the time grows with the text, in hundredths; or, without
+// times, whether each was read.
+pub(crate) fn print_forms(rt: &(impl Print + Clock), alloc: Global, timed: bool) -> Result<()> {
     for form in [
         Form::Fields,
         Form::Letters,
@@ -28,7 +24,7 @@ fn main(rt: HostRuntime) -> Result<()> {
         Form::Filters,
         Form::Nots,
     ] {
-        print_form(&rt, rt.alloc(), form, timed)?;
+        print_form(rt, alloc, form, timed)?;
     }
     Ok(())
 }

@@ -2,7 +2,7 @@
 ghost use Rattle.std.specs.Prelude.{◌≤◌, length};
 
 use crate::MOST;
-use crate::pictures::{pictured, plain};
+use crate::queries::pictures::{pictured, plain};
 use dg_parse::{DqlFault, parse, parse_upsert};
 use dg_print::{query_text, upsert_text};
 use dg_values::Mem;

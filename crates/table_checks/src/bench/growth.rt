@@ -1,6 +1,6 @@
-// The exponent by which a time grows with the length of a text.
+// The exponent by which a time grows with the length of a text, or with the number of its parts.
 
-// The fourth part of a text, and all of it, took so long: the exponent in hundredths, to 400 at most.
+// The fourth part of it, and all of it, took so long: the exponent in hundredths, to 400 at most.
 pub fn hundredths(quarter: u128, whole: u128) -> u32 {
     let whole = whole.saturating_mul(1_000_000);
     let mut reached = quarter.saturating_mul(1_000_000);
