@@ -2,6 +2,8 @@
 """gate_times.py: what the gate costs, crate by crate, in processor minutes.
 
 usage: gate_times.py [--save FILE] [TOP]   runs `rt ci` at TOP (default: here) and prints the table
+       gate_times.py --beside PID [TOP]    looks at a gate that runs below the process PID, until it ends or SIGTERM comes,
+                                           and prints the table of what it saw (once a second, for use in .ci/run)
        gate_times.py --show FILE [FILE]    prints the table of a kept run; of two, the earlier first, both and what is left
 
 It looks at the checks that `rt ci` has running, four times a second, and adds up the processor time of each:
@@ -17,6 +19,7 @@ import os
 import pathlib
 import re
 import resource
+import signal
 import subprocess
 import sys
 import threading
@@ -79,14 +82,14 @@ def part_of(pid, words, top):
 class Watch(threading.Thread):
     """Looks at the checks below one process until it is told to stop, and hands itself over once a minute."""
 
-    def __init__(self, parent, top, hand_over=None):
+    def __init__(self, parent, top, hand_over=None, pause=0.25):
         super().__init__(daemon=True)
-        self.parent, self.top, self.hand_over = parent, top, hand_over
+        self.parent, self.top, self.hand_over, self.pause = parent, top, hand_over, pause
         self.parts, self.spent, self.ended = {}, {}, threading.Event()
 
     def run(self):
         looks = 0
-        while not self.ended.wait(0.25):
+        while not self.ended.wait(self.pause):
             looks += 1
             if self.hand_over and looks % 240 == 0:
                 self.hand_over(self)
@@ -156,6 +159,19 @@ def measured(top, kept):
     return run_of(top, began, watch, last, status)
 
 
+def beside(parent, top):
+    """Looks at the gate below a process that was started by another, until that ends or a signal says that it has."""
+    began, told = time.time(), threading.Event()
+    signal.signal(signal.SIGTERM, lambda *_: told.set())
+    watch = Watch(parent, top, pause=1)
+    watch.start()
+    while not told.wait(1) and os.path.exists(f"/proc/{parent}"):
+        pass
+    watch.ended.set()
+    watch.join()
+    return run_of(top, began, watch, "looked at once a second", None)
+
+
 def keep(file, run):
     if file:
         pathlib.Path(file).write_text(json.dumps(run, indent=1))
@@ -187,10 +203,15 @@ def show(run):
 def main():
     words = argparse.ArgumentParser(description=__doc__, formatter_class=argparse.RawDescriptionHelpFormatter)
     words.add_argument("--save", metavar="FILE")
+    words.add_argument("--beside", metavar="PID", type=int)
     words.add_argument("--show", metavar="FILE", nargs="+")
     words.add_argument("top", nargs="?", default=".")
     given = words.parse_args()
-    runs = [json.loads(pathlib.Path(it).read_text()) for it in given.show or []] or [measured(pathlib.Path(given.top).resolve(), given.save)]
+    top = pathlib.Path(given.top).resolve()
+    if given.beside:
+        runs = [beside(given.beside, top)]
+    else:
+        runs = [json.loads(pathlib.Path(it).read_text()) for it in given.show or []] or [measured(top, given.save)]
     keep(given.save, runs[0])
     for run in runs:
         show(run)

@@ -3,6 +3,7 @@
 from __future__ import annotations
 
 import io
+import subprocess
 import tempfile
 import unittest
 from contextlib import redirect_stdout
@@ -30,6 +31,19 @@ class Checks(unittest.TestCase):
         self.assertTrue(gate.is_check(["/kit/bin/rattle", "build", "--crate-name", "low", "src/lib.rt"]))
         self.assertFalse(gate.is_check(["/kit/bin/rattle-link", "build", "--crate-name", "low"]))
         self.assertFalse(gate.is_check(["python3", "/usr/local/bin/rt", "ci"]))
+
+
+class Beside(unittest.TestCase):
+    def test_a_check_below_another_process_is_seen_until_that_ends(self) -> None:
+        with tempfile.TemporaryDirectory() as name:
+            top = Path(name)
+            (top / "crates/low").mkdir(parents=True)
+            (top / "crates/low/build").write_text("while [ $SECONDS -lt 4 ]; do :; done\n")
+            words = "exec -a /kit/bin/rattle bash build --crate-name low & wait"
+            with subprocess.Popen(["bash", "-c", words], cwd=top / "crates/low") as parent:
+                run = gate.beside(parent.pid, top)
+            self.assertEqual(list(run["crates"]), ["low"])
+            self.assertGreater(run["crates"]["low"]["parts"]["first"], 0)
 
 
 class Table(unittest.TestCase):
