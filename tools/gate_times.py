@@ -159,13 +159,21 @@ def measured(top, kept):
     return run_of(top, began, watch, last, status)
 
 
+def goes_on(pid):
+    """Whether a process is there and hasn't ended."""
+    try:
+        return not pathlib.Path(f"/proc/{pid}/stat").read_text().rpartition(")")[2].startswith(" Z")
+    except OSError:
+        return False
+
+
 def beside(parent, top):
     """Looks at the gate below a process that was started by another, until that ends or a signal says that it has."""
     began, told = time.time(), threading.Event()
     signal.signal(signal.SIGTERM, lambda *_: told.set())
     watch = Watch(parent, top, pause=1)
     watch.start()
-    while not told.wait(1) and os.path.exists(f"/proc/{parent}"):
+    while goes_on(parent) and not told.wait(1):
         pass
     watch.ended.set()
     watch.join()
