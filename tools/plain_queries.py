@@ -2,7 +2,7 @@
 
 A case beside the grammar notes the offset of the token that it refuses, and reading goes on; the first of these places
 and of the token that the grammar doesn't allow is the fault. `read_query` gives the blocks of a query;
-`rows_queries.py` prints them for the rows of `table_queries`, and `plain_answers.py` answers them.
+`rows_queries.py` prints them for the rows `queries` of `table_checks`, and `plain_answers.py` answers them.
 """
 
 from __future__ import annotations

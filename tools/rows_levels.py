@@ -2,7 +2,8 @@
 """Prints the rows of crates/table_levels: `rows_levels.py stdin` the rows, `rows_levels.py stdout` with their answers.
 
 Graphs and queries are random. The answers come from `plain_levels.py`, which goes node by node over triples alone. The rows of whole
-queries stand in `rows_variables.py` and `rows_recursions.py`, those of the calls that are made in `rows_counted.py`.
+queries stand in `rows_variables.py` and `rows_recursions.py`, those of the calls that are made in `rows_counted.py`, and the section
+`shapes` in `rows_shapes.py`.
 """
 
 from __future__ import annotations
@@ -14,6 +15,7 @@ from typing import Optional
 
 import rows_counted
 import rows_recursions
+import rows_shapes
 import rows_variables
 from plain_answers import View
 from plain_levels import LONGEST_ANSWER, Made, shown, whole
@@ -243,7 +245,7 @@ HAND = [
 
 
 def rows() -> Iterator[tuple[str, Optional[str]]]:
-    """Each row with its answer; none where it can't be read. A comment has an empty one."""
+    """Each row with its answer; none where it can't be read. A comment and the beginning of a section have an empty one."""
     for cascades in (0.0, 0.0, 0.0, 0.0, 0.4, 0.4):
         with_cascades = " with cascades" if cascades else ""
         yield f"# A random graph, and what queries{with_cascades} show of it. Wanted: tools/plain_levels.py, node by node.", ""
@@ -263,6 +265,8 @@ def rows() -> Iterator[tuple[str, Optional[str]]]:
     yield from rows_counted.rows()
     yield "# Rows that can't be read.", ""
     yield from ((row, None) for row in HAND)
+    yield "section shapes", ""
+    yield from rows_shapes.rows()
 
 
 def main() -> int:

@@ -1,8 +1,8 @@
 #!/usr/bin/env python3
-"""Prints the rows of look-ups of crates/table_groups or crates/table_zero, the last ones there.
+"""Prints the rows of look-ups of crates/table_runs or crates/table_zero.
 
-`rows_lookups.py stdin groups` prints those of table_groups with their heads, `rows_lookups.py stdout groups` with their answers,
-and so does `zero` for table_zero. The answers come from plain triples alone: each look-up goes over all of a graph.
+`rows_lookups.py stdin groups` prints those of table_runs, the last ones of its `section groups`, with their heads, and
+`rows_lookups.py stdout groups` with their answers. So does `zero` for table_zero, where they are the last ones. The answers come from plain triples alone: each look-up goes over all of a graph.
 """
 
 from __future__ import annotations
@@ -21,7 +21,7 @@ LONG = 10
 KINDS = {"text": "string", "int": "int", "bool": "bool", "time": "dateTime"}
 DEFAULTS = {"int": "int", "bool": "bool", "dateTime": "year"}
 
-# Rows of table_groups. One of a look-up begins with the graphs that it is for.
+# Rows of table_runs. One of a look-up begins with the graphs that it is for.
 SCENE = """
 # Look-ups. Without an index, a reverse list or a count there is no answer.
 new 3

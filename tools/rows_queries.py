@@ -1,12 +1,12 @@
 #!/usr/bin/env python3
-"""The answers that the rows of crates/table_queries want, by the grammar and not by the program.
+"""The answers that the rows of the section `queries` of crates/table_checks want, by the grammar and not by the program.
 
-    rows_queries.py <crates/table_queries/stdin >crates/table_queries/stdout
+    rows_queries.py <crates/table_checks/stdin
 
-Tokens are read by plain_tokens.py, queries, their depth and the cases beside the grammar by plain_queries.py, upsert blocks by
-plain_upserts.py, and their statements by plain_mutations.py. What is read of a query or an upsert block is its printed form:
-its words, with a blank behind each. No line of it was taken from the crates or from what they print. It needs Python 3.9
-or later.
+They stand in its stdout behind those of checks. Tokens are read by plain_tokens.py, queries, their depth and the cases beside
+the grammar by plain_queries.py, upsert blocks by plain_upserts.py, and their statements by plain_mutations.py. What is read of
+a query or an upsert block is its printed form: its words, with a blank behind each. No line of it was taken from the crates or
+from what they print. It needs Python 3.9 or later.
 """
 
 from __future__ import annotations
@@ -34,6 +34,7 @@ from plain_queries import (
     read_query,
 )
 from plain_upserts import Length, Mutation, Upsert, read_upsert
+from rows_printed import in_section
 from rows_text import TYPES, of_field, shown
 
 MOST = 1_048_576
@@ -295,7 +296,7 @@ def answers(rows: Iterator[str]) -> Iterator[str]:
 def main() -> None:
     sys.setrecursionlimit(10_000)
     text = sys.stdin.buffer.read().decode()
-    for line in answers(iter(text.split("\n"))):
+    for line in answers(in_section(text.split("\n"), "queries", "checks")):
         sys.stdout.buffer.write(f"{line}\n".encode())
 
 

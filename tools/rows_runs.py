@@ -1,15 +1,19 @@
 #!/usr/bin/env python3
 """The answers to the rows about whole scripts.
 
-    rows_runs.py <crates/table_runs/stdin >crates/table_runs/stdout
+    rows_runs.py crates/table_runs
 
-The replies are those of `plain_machine.py`, which is independent of the programs; what is read and written where a call
-fails is computed here. It needs Python 3.9 or later.
+They take the place of all lines of the folder's stdout before those of `section groups`. The replies are those of
+`plain_machine.py`, which is independent of the programs; what is read and written where a call fails is computed here. It
+needs Python 3.9 or later.
 """
 
 from __future__ import annotations
 
+import io
 import sys
+from contextlib import redirect_stdout
+from pathlib import Path
 from typing import Optional
 
 import plain_machine as plain
@@ -18,6 +22,8 @@ PICTURES = dict(zip("␊␉␍␀", "\n\t\r\0"))
 PIECE = 16_384
 LONGEST_SHOWN = 400
 SHOWN_FRONT = 40
+# The rows behind this one are no scripts.
+END = "section groups"
 ENDINGS = {
     "Done": "0 dgraph: done",
     "ReadFault": "1 dgraph: read fault",
@@ -131,11 +137,13 @@ def words_row(words: str) -> str:
     return f"{ENDINGS['Done']}, {len(plain.run(b'begin 1' + bytes([10])).replies[0])} bytes"
 
 
-def main() -> None:
+def is_asked(row: str) -> bool:
+    return bool(row) and not row.startswith("#")
+
+
+def print_answers(rows: list[str]) -> None:
     script = Script()
-    for row in sys.stdin.read().split("\n"):
-        if not row or row.startswith("#"):
-            continue
+    for row in filter(is_asked, rows):
         table, *fields = row.split(" | ")
         if table in ("frame", "hex", "filled", "repeated", "raw"):
             script = script.add(row, bytes_of_row(table, *fields))
@@ -156,5 +164,17 @@ def main() -> None:
             print(f"{row} => {ENDINGS[fields[0]]}{''.join(fields[1:])}")
 
 
+def main(folder: Path) -> None:
+    rows = (folder / "stdin").read_text(encoding="utf-8").split("\n")
+    end = rows.index(END)
+    answers = io.StringIO()
+    with redirect_stdout(answers):
+        print_answers(rows[:end])
+    behind = next(filter(is_asked, rows[end + 1 :]))
+    _, found, rest = (folder / "stdout").read_text(encoding="utf-8").partition(f"\n{behind} => ")
+    assert found, f"no answer to {behind}"
+    (folder / "stdout").write_text(answers.getvalue() + found[1:] + rest, encoding="utf-8")
+
+
 if __name__ == "__main__":
-    main()
+    main(Path(sys.argv[1]))

@@ -1,5 +1,4 @@
-#!/usr/bin/env python3
-"""Prints the rows of crates/table_shapes: `rows_shapes.py stdin` the rows, `rows_shapes.py stdout` with their answers.
+"""Rows of the section `shapes` of table_levels: lists of nodes, whole trees, and recursion over columns.
 
 Lists of nodes, whole trees and graphs are random. The answers come from `plain_levels.py`, which goes node by node, and for recursion from
 a walk along each path.
@@ -8,14 +7,12 @@ a walk along each path.
 from __future__ import annotations
 
 import random
-import sys
 from collections.abc import Iterator
 from typing import Optional, Union
 
 from plain_levels import LONGEST_ANSWER, Tree, counts_in, flat, key_of, remaining, shown
 from plain_queries import Count, CountUid, Field, Followed, Uid, read_query
 from plain_values import read_posting
-from rows_printed import print_rows
 
 SEED = 30
 KINDS = {"text": "string", "int": "int", "bool": "bool", "time": "dateTime"}
@@ -309,6 +306,7 @@ def gate_row(parents: int) -> str:
 
 def rows() -> Iterator[tuple[str, Optional[str]]]:
     """Each row with its answer; none where it can't be read. A comment has no answer."""
+    random.seed(SEED)
     yield "# Lists of nodes in order. Wanted: the rules of the language, by hand.", ""
     yield from ((row, ordered(row.split("\t")[1:])) for row in HAND_ORDERS)
     yield "# The same at random. Wanted: sorted by tools/rows_shapes.py, a key at a time.", ""
@@ -329,12 +327,3 @@ def rows() -> Iterator[tuple[str, Optional[str]]]:
     yield from ((behind_a_gate(parents, others), gate_row(parents)) for parents, others in ((1, 3), (5, 10), (40, 30)))
     yield "# Rows that can't be read.", ""
     yield from ((row, None) for row in ("cascade\t{ q(", "strip\t{ q(func: uid(0x1)) { uid } }\tnode 1", "normalize\t{ }\tfield a", "else\t1"))
-
-
-def main() -> int:
-    random.seed(SEED)
-    return print_rows(rows())
-
-
-if __name__ == "__main__":
-    sys.exit(main())

@@ -1,7 +1,7 @@
-//! What a hand-written Rust program takes for scripts of many small transactions, beside `bench_engine` in one run on one
-//! machine: the same scripts in memory, a version of each value for each commit, conflicts by key, a history of all commits,
-//! and the same replies. It does less: it checks no schema and no statement, it knows no session but one, no layers and no
-//! groups, and nothing is let go when memory is refused.
+//! What a hand-written Rust program takes for scripts of many small transactions, beside `table_runs` with the word `time` in
+//! one run on one machine: the same scripts in memory, a version of each value for each commit, conflicts by key, a history
+//! of all commits, and the same replies. It does less: it checks no schema and no statement, it knows no session but one, no
+//! layers and no groups, and nothing is let go when memory is refused.
 //!
 //!     rustc -O tools/baselines/engine.rs -o /tmp/engine && /tmp/engine
 use std::collections::{BTreeMap, HashMap};

@@ -1,5 +1,6 @@
 //! What a hand-written Rust program takes to read a query of many fields into a tree like that of `dg_parse`: for
-//! comparison with `bench_parse` in one run on one machine. It does less: it knows no alias, argument, directive or brace.
+//! comparison with `table_checks time parse` in one run on one machine. It does less: it knows no alias, argument,
+//! directive or brace.
 //!
 //!     rustc -O tools/baselines/fields.rs -o /tmp/fields && /tmp/fields
 use std::collections::HashSet;

@@ -272,7 +272,7 @@ class Patterns(unittest.TestCase):
 
 
 class Reading(unittest.TestCase):
-    """Trees of queries; the rows of table_queries have the grammar whole."""
+    """Trees of queries; the rows `queries` of table_checks have the grammar whole."""
 
     def test_nots_are_counted(self) -> None:
         block = read_query(f"{{ q(func: has(a)) @filter({'not ' * 5000}(not has(b))) {{ }} }}")[0]

@@ -1,4 +1,4 @@
-"""The checks of queries and upsert blocks, over the rows of table_checks, whose answers were written by hand."""
+"""The checks of queries and upsert blocks, over the rows `checks` of table_checks, whose answers were written by hand."""
 
 from __future__ import annotations
 
@@ -10,9 +10,17 @@ from plain_machine import SchemaReader
 from plain_queries import Fault, read_query
 from plain_tokens import Refusal
 from plain_upserts import read_upsert, uses_of
+from rows_printed import in_section
 from tests.helpers import TOP
 
-ROWS = TOP / "crates" / "table_checks" / "stdout"
+CRATE = TOP / "crates" / "table_checks"
+
+
+def answered() -> list[str]:
+    """The lines that are printed for the rows of checks, which stand in front."""
+    rows = in_section((CRATE / "stdin").read_text(encoding="utf-8").split("\n"), "checks", "checks")
+    count = sum(row != "" and not row.startswith("#") for row in rows)
+    return (CRATE / "stdout").read_text(encoding="utf-8").split("\n")[:count]
 
 
 def found(table: str, schema: Schema, text: str) -> str:
@@ -32,7 +40,7 @@ class Rows(unittest.TestCase):
         """How often rows of a table have which fault, after each was found to have its own."""
         schema: Schema = {}
         met: Counter[str] = Counter()
-        for row in ROWS.read_text(encoding="utf-8").splitlines():
+        for row in answered():
             table, _, rest = row.partition("\t")
             text, _, wanted = rest.rpartition(" => ")
             if table == "schema":

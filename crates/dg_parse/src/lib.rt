@@ -8,6 +8,7 @@
 
 mod arguments;
 mod blocks;
+pub mod carried;
 mod conditions;
 mod directives;
 mod fault;

@@ -6,8 +6,8 @@ use Rattle.dg_text.specs.Spelling.{name_word, mark_word}
 use Rattle.dg_text.specs.Written.{Word, written}
 use Rattle.dg_print.specs.Printed.{Shown, in_round, between_words, nots, shown_alone}
 use Rattle.dg_print.specs.Printing.{words_in}
-use Rattle.dg_parse.specs.declared.printing.brackets.Within.{Within}
-use Rattle.dg_parse.specs.declared.printing.brackets.Within.TheVariants as within
+use Rattle.dg_print.specs.declared.brackets.Within.{Within}
+use Rattle.dg_print.specs.declared.brackets.Within.TheVariants as within
 use Rattle.dg_print.proofs.WordsWritten.{written_both, two_written}
 
 -- one "not" more

@@ -4,8 +4,8 @@ use Rattle.dg_print.specs.Printed.{Shown}
 use Rattle.dg_print.specs.PrintedQuery.{item_words, words_of_field}
 use Rattle.dg_parse.specs.declared.query.QItem.{QItem}
 use Rattle.dg_parse.specs.declared.query.QItem.TheFolds.{fold-QItem}
-use Rattle.dg_parse.specs.declared.printing.brackets.Within.{Within}
-use Rattle.dg_parse.specs.declared.printing.brackets.Within.TheVariants as within
+use Rattle.dg_print.specs.declared.brackets.Within.{Within}
+use Rattle.dg_print.specs.declared.brackets.Within.TheVariants as within
 use Rattle.dg_text.specs.Written.{Word}
 
 -- the words of a filter or a condition by what it stands in

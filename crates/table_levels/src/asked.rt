@@ -19,8 +19,8 @@ use std::sync::ledger::{Blank, Ledger};
 // The most bytes that the text of an answer has.
 const LONGEST: usize = 16_777_216;
 
-// The query of a text, if it is one.
-fn query_of(alloc: Global, text: &str) -> Mem<Option<Query>> {
+/// The query of a text, if it is one.
+pub(crate) fn query_of(alloc: Global, text: &str) -> Mem<Option<Query>> {
     if text.len() > MOST {
         return Ok(None);
     }

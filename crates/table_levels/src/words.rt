@@ -13,8 +13,8 @@ fn kind_of(word: &str) -> Option<Kind> {
     }
 }
 
-// The value of a text of a kind.
-fn value_of(alloc: Global, kind: &str, text: &str) -> Mem<Option<Value>> {
+/// The value of a text of a kind.
+pub(crate) fn value_of(alloc: Global, kind: &str, text: &str) -> Mem<Option<Value>> {
     let Some(kind) = kind_of(kind) else {
         return Ok(None);
     };

@@ -1,42 +1,71 @@
-//! Whole scripts, row by row. Rows of standard input add frames to a script; the row `run` runs it, and prints each of
-//! them with its reply. A row `from` does so where timestamps begin later. Other rows run it again in pieces, with calls
-//! that fail, or in part.
+//! What a node does, row by row, in sections that each begin with nothing made. A row `section NAME` says what the rows
+//! behind it are:
+//!
+//! - `runs`, as at the beginning: whole scripts. Rows of standard input add frames to a script; the row `run` runs it, and
+//!   prints each of them with its reply. A row `from` does so where timestamps begin later. Other rows run it again in
+//!   pieces, with calls that fail, or in part.
+//! - `groups`: calls on a state with its groups and on open transactions, each of which is printed with its answer.
+//! - `bench`: none. How many requests are refused of small scripts is printed at once.
+//!
+//! With a word no rows are read, and larger scripts are measured: with `time` nanoseconds a step are printed, and by which
+//! power of the number of steps they grow; with `bytes` the memory of a tiny transaction, with `indexed` that of an
+//! indexed triple.
 #![tactic(auto)]
 
+mod bench;
 mod fields;
+mod groups;
 mod replies;
 mod runs;
 mod script;
+mod sections;
 mod statuses;
 
 use anyhow::{Result, bail};
 use fields::{Answer, RowFault, fields_of};
 use script::Script;
+use sections::Section;
 use std::alloc::Global;
 use std::sync::Wait;
 use std::thread::Threads;
 
 fn main(rt: HostRuntime) -> Result<()> {
-    run(&rt, rt.alloc())
+    match bench::asked(&rt)? {
+        Some(cost) => bench::print_cost(&rt, rt.alloc(), cost),
+        None => run(&rt, rt.alloc()),
+    }
 }
 
 // Answers each row in turn. Empty lines and those that begin with `#` are passed over.
 fn run<R: Input + Print + Threads + Wait + Sync>(rt: &R, alloc: Global) -> Result<()> {
-    let mut script = Script::new(alloc);
+    let mut section = Section::new(alloc);
     for line in rt.lines(alloc) {
         let line = line?;
         let row = line.as_str();
         if row.is_empty() || row.starts_with('#') {
             continue;
         }
-        match answer(rt, alloc, &mut script, row) {
-            Ok(text) => print!(rt; "{text}")?,
-            Err(RowFault::Unreadable) => println!(rt; "? {row}")?,
-            Err(RowFault::OutOfMemory) => bail!("out of memory"),
+        if let Some(next) = Section::begun_by(alloc, row) {
+            section.print_end(rt)?;
+            section = next;
+            section.print_front(rt, alloc)?;
+            continue;
+        }
+        match &mut section {
+            Section::Runs { script } => print_row(rt, row, answer(rt, alloc, script, row))?,
+            Section::Groups { kept } => groups::print_row(rt, alloc, kept, row)?,
+            Section::Bench => println!(rt; "? {row}")?,
         }
     }
-    for row in script.rows() {
-        println!(rt; "? {row}")?;
+    section.print_end(rt)?;
+    Ok(())
+}
+
+fn print_row(rt: &impl Print, row: &str, answer: Answer) -> Result<()> {
+    match answer {
+        Ok(text) => print!(rt; "{text}")?,
+        Err(RowFault::Unreadable) => println!(rt; "? {row}")?,
+        Err(RowFault::OutOfMemory) => bail!("out of memory"),
     }
     Ok(())
 }
