@@ -29,6 +29,9 @@ pub fn fault_of_variables(
 ) -> Mem<Option<CheckFault>>
     ensures { IfOk result (λ found. found ≡ fault_of_variables (definitions_met definitions.now) (uses_met uses.now)) }
 {
+    if uses.is_empty() && definitions.is_empty() {
+        return Ok(None);
+    }
     match unknown_variable(alloc, definitions, uses)? {
         Some(fault) => Ok(Some(fault)),
         None => twice(alloc, definitions),

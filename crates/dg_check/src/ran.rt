@@ -1,4 +1,4 @@
-// Blocks that have run or were found, in their order, and the same places in a set.
+// Blocks that have run or were found, in their order, and the same places as a front of all places and a set.
 ghost use Rattle.std.specs.Prelude.{◌≡◌, [], ◌∷◌, ◌++◌, OnOk, slice_get};
 ghost use Rattle.dg_check.specs.Cycles.{is_place_in};
 
@@ -11,11 +11,13 @@ use std::marker::Model;
 #[derive(Drop)]
 pub struct Ran {
     order: Vec<usize>,
+    // The blocks before this one are there. They aren't put into the set, so that blocks which run in turn take no memory there.
+    turn: usize,
     places: BTreeSet<usize>,
 }
 
 impl Model for Ran {
-    ghost use Rattle.std.specs.Prelude.{◌≡◌, List, ℕ};
+    ghost use Rattle.std.specs.Prelude.{◌≡◌, ◌||◌, List, ℕ, nat_lt};
     ghost use Rattle.std.specs.BTreeSet.{contains};
     ghost use Rattle.std.specs.Ordering.{nat_cmp};
     ghost use Rattle.dg_check.specs.Cycles.{is_place_in};
@@ -24,7 +26,7 @@ impl Model for Ran {
 
     ghost view = { λ ran. ran.order.items };
 
-    ghost invariant = { λ ran. (at : ℕ) → contains nat_cmp ran.places at ≡ is_place_in ran.order.items at };
+    ghost invariant = { λ ran. (at : ℕ) → (nat_lt at ran.turn || contains nat_cmp ran.places at) ≡ is_place_in ran.order.items at };
 }
 
 impl Ran {
@@ -34,15 +36,16 @@ impl Ran {
     {
         Ran {
             order: Vec::new(alloc),
+            turn: 0,
             places: BTreeSet::new(alloc),
         }
     }
 
-    /// Whether a block has run. It looks by halves.
+    /// Whether a block has run. It looks by halves among those that ran out of turn.
     pub fn has(&self, at: usize) -> bool
         ensures { result ≡ is_place_in self.now at }
     {
-        self.places.contains(&at)
+        at < self.turn || self.places.contains(&at)
     }
 
     /// One block more has run. Where there is no memory the blocks stay as they are.
@@ -50,6 +53,10 @@ impl Ran {
         ensures { OnOk result (self.new ≡ self.old ++ at ∷ []) }
     {
         self.order.push(at)?;
+        if at == self.turn && at < usize::MAX {
+            self.turn = at + 1;
+            return Ok(());
+        }
         match self.places.insert(at) {
             Ok(_) => Ok(()),
             Err(_) => {
