@@ -5,6 +5,7 @@ pub mod PartLaws
 pub mod ListLaws
 pub mod OrderLaws
 pub mod ValueLaws
+pub mod ObjectLaws
 pub mod ShownLaws
 pub mod PlannedLaws
 pub mod WritingLaws

@@ -1,5 +1,5 @@
 // What is shown of a predicate of a node.
-ghost use Rattle.std.specs.Prelude.{◌≡◌, IfOk, map, flat_map, option_copied, option_to_list};
+ghost use Rattle.std.specs.Prelude.{◌≡◌, false, IfOk, map, flat_map, slice_get, option_copied, option_to_list};
 ghost use Rattle.dg_values.specs.Printing.{time_text};
 ghost use Rattle.dg_level.specs.Answers.{value_tree, value_of, values_shown, shown};
 
@@ -66,6 +66,47 @@ pub fn values_shown(alloc: Global, list: bool, values: Vec<Value>) -> Mem<Option
     }
 }
 
+// The first of these objects.
+fn first_object(objects: Vec<Posting>) -> Option<Posting>
+    ensures { result ≡ slice_get objects.items 0 }
+{
+    objects.into_iter().next()
+}
+
+// The tree of an object that is a value.
+fn object_shown(alloc: Global, object: Posting) -> Mem<Option<Tree>>
+    ensures { IfOk result (λ tree. option_to_list tree ≡ values_shown false (value_of object)) }
+{
+    match object {
+        Posting::Uid(_) => Ok(None),
+        Posting::Val(value) => Ok(Some(value_tree(alloc, value)?)),
+    }
+}
+
+// The tree of the first value among objects, if there is one. Of one object no list is made.
+#[tactic(auto, using(crate::proofs::ObjectLaws::none_shown, crate::proofs::ObjectLaws::one_shown))]
+fn first_shown(alloc: Global, objects: Vec<Posting>) -> Mem<Option<Tree>>
+    ensures { IfOk result (λ tree. option_to_list tree ≡ values_shown false (flat_map value_of objects.items)) }
+{
+    if objects.len() > 1 {
+        return values_shown(alloc, false, values_of(alloc, objects)?);
+    }
+    match first_object(objects) {
+        None => Ok(None),
+        Some(object) => object_shown(alloc, object),
+    }
+}
+
+/// The tree of the values among objects, if there are any: of a list all in an array, else the first. The error is want of memory.
+pub fn objects_shown(alloc: Global, list: bool, objects: Vec<Posting>) -> Mem<Option<Tree>>
+    ensures { IfOk result (λ tree. option_to_list tree ≡ values_shown list (flat_map value_of objects.items)) }
+{
+    if list {
+        return values_shown(alloc, true, values_of(alloc, objects)?);
+    }
+    first_shown(alloc, objects)
+}
+
 /// What is shown of the objects of a predicate, if anything. The error is want of memory.
 pub fn shown(
     alloc: Global,
@@ -76,6 +117,6 @@ pub fn shown(
 {
     match definition {
         None => Ok(None),
-        Some(definition) => values_shown(alloc, definition.list, values_of(alloc, objects)?),
+        Some(definition) => objects_shown(alloc, definition.list, objects),
     }
 }

@@ -1,5 +1,5 @@
 // The list of a block, and the array of what its nodes show.
-ghost use Rattle.std.specs.Prelude.{◌≡◌, ◌<◌, ◌≤◌, ◌∷◌, [], List as Items, length, IfOk, IsErrOf};
+ghost use Rattle.std.specs.Prelude.{◌≡◌, ◌<◌, ◌≤◌, List as Items, length, IfOk, IsErrOf};
 ghost use Rattle.dg_graph.specs.Graphs.{IsLawful};
 ghost use Rattle.dg_check.specs.Parts.{IsBlockOf};
 ghost use Rattle.dg_check.specs.Variables.{Definition};
@@ -150,7 +150,7 @@ fn nested_array<S: Snapshot, L: Ledger>(
     reads: &mut Steps<L>,
 ) -> Result<Rows, TreeFault>
     ensures ok { (ds : Items Definition) → IsLawful (S.declared snap.now) (S.graph snap.now) → AreOfKind ds vars.now.variables → IsBlockOf (S.declared snap.now) ds block.now kept.now
-        → AreLeftAt (S.declared snap.now) (S.graph snap.now) vars.now.variables block.now kept.now list.now left → IfOk result (λ rows. rows.rows ≡ tree_text (trees.Array (nested_shown (S.declared snap.now) (S.graph snap.now) ds vars.now.variables block.now list.now)) ∷ []) }
+        → AreLeftAt (S.declared snap.now) (S.graph snap.now) vars.now.variables block.now kept.now list.now left → IfOk result (λ rows. rows.begun ≡ tree_text (trees.Array (nested_shown (S.declared snap.now) (S.graph snap.now) ds vars.now.variables block.now list.now))) }
     ensures too_large { (ds : Items Definition) → IsLawful (S.declared snap.now) (S.graph snap.now) → AreOfKind ds vars.now.variables → IsBlockOf (S.declared snap.now) ds block.now kept.now
         → AreLeftAt (S.declared snap.now) (S.graph snap.now) vars.now.variables block.now kept.now list.now left → IsErrOf result TreeFault.TooLarge → 16777216 < length (tree_text (trees.Array (nested_shown (S.declared snap.now) (S.graph snap.now) ds vars.now.variables block.now list.now))) }
 {
@@ -170,10 +170,9 @@ fn nested_array<S: Snapshot, L: Ledger>(
     )?;
     let counts = counts_of(alloc, fields)?;
     let front = number_objects(alloc, list.len(), counts.as_slice())?;
-    let mut array = Rows::within(alloc, MOST);
-    array.array(front.as_slice(), list, &level, &below)?;
-    array.close()?;
-    Ok(array)
+    let mut rows = Rows::with_room(alloc, MOST)?;
+    rows.array(front.as_slice(), list, &level, &below)?;
+    Ok(rows)
 }
 
 // The array of what the nodes of a list unfold to. What a node unfolds to is made once, also where it stands there more than once.
@@ -190,7 +189,7 @@ fn recursed_array<S: Snapshot, L: Ledger>(
     requires least { 1 ≤ recursion.depth }
     requires most { recursion.depth ≤ 32 }
     ensures ok { (ds : Items Definition) → IsLawful (S.declared snap.now) (S.graph snap.now) → AreOfKind ds vars.now.variables → IsBlockOf (S.declared snap.now) ds block.now kept.now
-        → IfOk result (λ rows. rows.rows ≡ tree_text (trees.Array (recursed_shown (S.declared snap.now) (S.graph snap.now) ds vars.now.variables block.now recursion list.now)) ∷ []) }
+        → IfOk result (λ rows. rows.begun ≡ tree_text (trees.Array (recursed_shown (S.declared snap.now) (S.graph snap.now) ds vars.now.variables block.now recursion list.now))) }
     ensures too_large { (ds : Items Definition) → IsLawful (S.declared snap.now) (S.graph snap.now) → AreOfKind ds vars.now.variables → IsBlockOf (S.declared snap.now) ds block.now kept.now
         → IsErrOf result TreeFault.TooLarge → 16777216 < length (tree_text (trees.Array (recursed_shown (S.declared snap.now) (S.graph snap.now) ds vars.now.variables block.now recursion list.now))) }
 {
@@ -209,7 +208,6 @@ fn recursed_array<S: Snapshot, L: Ledger>(
     )?;
     let mut array = Rows::within(alloc, MOST);
     array.array(&[], list, &level, &below)?;
-    array.close()?;
     Ok(array)
 }
 
@@ -225,7 +223,7 @@ fn plain_array<S: Snapshot, L: Ledger>(
     reads: &mut Steps<L>,
 ) -> Result<Rows, TreeFault>
     ensures ok { (ds : Items Definition) → IsLawful (S.declared snap.now) (S.graph snap.now) → AreOfKind ds vars.now.variables → IsBlockOf (S.declared snap.now) ds block.now kept.now
-        → AreLeftAt (S.declared snap.now) (S.graph snap.now) vars.now.variables block.now kept.now list.now left → IfOk result (λ rows. rows.rows ≡ tree_text (trees.Array (plain_shown (S.declared snap.now) (S.graph snap.now) ds vars.now.variables block.now list.now)) ∷ []) }
+        → AreLeftAt (S.declared snap.now) (S.graph snap.now) vars.now.variables block.now kept.now list.now left → IfOk result (λ rows. rows.begun ≡ tree_text (trees.Array (plain_shown (S.declared snap.now) (S.graph snap.now) ds vars.now.variables block.now list.now))) }
     ensures too_large { (ds : Items Definition) → IsLawful (S.declared snap.now) (S.graph snap.now) → AreOfKind ds vars.now.variables → IsBlockOf (S.declared snap.now) ds block.now kept.now
         → AreLeftAt (S.declared snap.now) (S.graph snap.now) vars.now.variables block.now kept.now list.now left → IsErrOf result TreeFault.TooLarge → 16777216 < length (tree_text (trees.Array (plain_shown (S.declared snap.now) (S.graph snap.now) ds vars.now.variables block.now list.now))) }
 {
@@ -235,7 +233,7 @@ fn plain_array<S: Snapshot, L: Ledger>(
     nested_array(alloc, snap, block, kept, vars, list, left, reads)
 }
 
-/// The array of what the nodes of a list show, as the one row: what they unfold to where the block has a recursion, and flat
+/// The array of what the nodes of a list show, as the row that is begun: what they unfold to where the block has a recursion, and flat
 /// objects where it is normalized.
 ///
 /// `TooLarge` comes only where the array has more than 16,777,216 bytes. The other error is want of memory.
@@ -250,7 +248,7 @@ pub fn array_shown<S: Snapshot, L: Ledger>(
     reads: &mut Steps<L>,
 ) -> Result<Rows, TreeFault>
     ensures ok { (ds : Items Definition) → IsLawful (S.declared snap.now) (S.graph snap.now) → AreOfKind ds vars.now.variables → IsBlockOf (S.declared snap.now) ds block.now kept.now
-        → AreLeftAt (S.declared snap.now) (S.graph snap.now) vars.now.variables block.now kept.now list.now left → IfOk result (λ rows. rows.rows ≡ tree_text (array_shown (S.declared snap.now) (S.graph snap.now) ds vars.now.variables block.now list.now) ∷ []) }
+        → AreLeftAt (S.declared snap.now) (S.graph snap.now) vars.now.variables block.now kept.now list.now left → IfOk result (λ rows. rows.begun ≡ tree_text (array_shown (S.declared snap.now) (S.graph snap.now) ds vars.now.variables block.now list.now)) }
     ensures too_large { (ds : Items Definition) → IsLawful (S.declared snap.now) (S.graph snap.now) → AreOfKind ds vars.now.variables → IsBlockOf (S.declared snap.now) ds block.now kept.now
         → AreLeftAt (S.declared snap.now) (S.graph snap.now) vars.now.variables block.now kept.now list.now left → IsErrOf result TreeFault.TooLarge → 16777216 < length (tree_text (array_shown (S.declared snap.now) (S.graph snap.now) ds vars.now.variables block.now list.now)) }
 {

@@ -1,5 +1,5 @@
 // The array of a block whose nodes are shown as flat objects.
-ghost use Rattle.std.specs.Prelude.{◌≡◌, false, ◌<◌, ◌∷◌, [], List as Items, length, map, IfOk, IsErrOf};
+ghost use Rattle.std.specs.Prelude.{◌≡◌, false, ◌<◌, List as Items, length, map, IfOk, IsErrOf};
 ghost use Rattle.dg_graph.specs.Graphs.{IsLawful};
 ghost use Rattle.dg_check.specs.Parts.{IsBlockOf};
 ghost use Rattle.dg_check.specs.Variables.{Definition};
@@ -60,7 +60,7 @@ fn block_flats<S: Snapshot, L: Ledger>(
     )
 }
 
-/// The array of the flat objects of the nodes of a list, as the one row. Those of a node are made once, in a level of all of
+/// The array of the flat objects of the nodes of a list, as the row that is begun. Those of a node are made once, in a level of all of
 /// them.
 ///
 /// # Errors
@@ -77,7 +77,7 @@ pub fn flat_array<S: Snapshot, L: Ledger>(
     reads: &mut Steps<L>,
 ) -> Result<Rows, TreeFault>
     ensures ok { (ds : Items Definition) → IsLawful (S.declared snap.now) (S.graph snap.now) → AreOfKind ds vars.now.variables → IsBlockOf (S.declared snap.now) ds block.now kept.now
-        → AreLeftAt (S.declared snap.now) (S.graph snap.now) vars.now.variables block.now kept.now list.now left → IfOk result (λ rows. rows.rows ≡ tree_text (trees.Array (flat_shown (S.declared snap.now) (S.graph snap.now) ds vars.now.variables block.now list.now)) ∷ []) }
+        → AreLeftAt (S.declared snap.now) (S.graph snap.now) vars.now.variables block.now kept.now list.now left → IfOk result (λ rows. rows.begun ≡ tree_text (trees.Array (flat_shown (S.declared snap.now) (S.graph snap.now) ds vars.now.variables block.now list.now))) }
     ensures too_large { (ds : Items Definition) → IsLawful (S.declared snap.now) (S.graph snap.now) → AreOfKind ds vars.now.variables → IsBlockOf (S.declared snap.now) ds block.now kept.now
         → AreLeftAt (S.declared snap.now) (S.graph snap.now) vars.now.variables block.now kept.now list.now left → IsErrOf result TreeFault.TooLarge → 16777216 < length (tree_text (trees.Array (flat_shown (S.declared snap.now) (S.graph snap.now) ds vars.now.variables block.now list.now))) }
 {
@@ -85,6 +85,5 @@ pub fn flat_array<S: Snapshot, L: Ledger>(
     let below = block_flats(alloc, snap, block, kept, vars, &level, left, reads)?;
     let mut array = Rows::within(alloc, MOST);
     array.flat_array(list, &level, below.as_slice())?;
-    array.close()?;
     Ok(array)
 }

@@ -1,5 +1,5 @@
 // The keys of fields.
-ghost use Rattle.std.specs.Prelude.{◌≡◌, map, IfOk};
+ghost use Rattle.std.specs.Prelude.{◌≡◌, map, IfOk, IfSome};
 ghost use Rattle.dg_parse.specs.Keys.{edge_text, count_key, val_key, aggregate_word, agg_key, item_key, key_of};
 ghost use Rattle.dg_tree.specs.Texts.{key_text};
 ghost use Rattle.dg_level.specs.Keys.{asks_count, all_count_keys};
@@ -79,11 +79,32 @@ pub fn key_of(alloc: Global, field: &QField) -> Mem<Str>
     }
 }
 
+// The key of an item without an alias, where it is a predicate.
+fn pred_key(item: &QItem) -> Option<&str>
+    ensures { IfSome result (λ key. key.now ≡ item_key item.now) }
+{
+    match item {
+        QItem::Edge { edge, .. } if !edge.back => Some(edge.pred.as_str()),
+        _ => None,
+    }
+}
+
+// The key of a field, where it is an alias or a predicate. It takes no memory.
+fn plain_key(field: &QField) -> Option<&str>
+    ensures { IfSome result (λ key. key.now ≡ key_of field.now) }
+{
+    match &field.alias {
+        Some(alias) => Some(alias.as_str()),
+        None => pred_key(&field.item),
+    }
+}
+
 // The text of a key. One of more bytes than a number counts can't be had: that is want of memory.
 fn text_of(alloc: Global, key: &str) -> Mem<Str>
     ensures { IfOk result (λ text. text ≡ key_text key.now) }
 {
-    let mut text = Str::from_str(alloc, "")?;
+    let room = key.len().saturating_add(3);
+    let mut text = Str::from_string(String::with_capacity(alloc, room)?);
     match push_key(alloc, &mut text, usize::MAX, key) {
         Ok(()) => Ok(text),
         Err(TreeFault::OutOfMemory) => Err(OutOfMemory),
@@ -95,8 +116,10 @@ fn text_of(alloc: Global, key: &str) -> Mem<Str>
 pub fn key_text(alloc: Global, field: &QField) -> Mem<Str>
     ensures { IfOk result (λ text. text ≡ key_text (key_of field.now)) }
 {
-    let key = key_of(alloc, field)?;
-    text_of(alloc, key.as_str())
+    match plain_key(field) {
+        Some(key) => text_of(alloc, key),
+        None => text_of(alloc, key_of(alloc, field)?.as_str()),
+    }
 }
 
 // Whether a field asks for the number of nodes of its list.

@@ -1,15 +1,17 @@
 // The lists and values of the nodes of a level, where they are known.
-ghost use Rattle.std.specs.Prelude.{◌≡◌, ℕ, List as Items, Some, map, slice_get, IfOk, IfSome};
+ghost use Rattle.std.specs.Prelude.{◌≡◌, ℕ, List as Items, Some, map, slice_get, option_to_list, IfOk, IfSome};
+ghost use Rattle.dg_level.specs.Answers.{values_shown};
 ghost use Rattle.dg_level.specs.Known.{KnowsLists, values_by, KnowsValues};
 ghost use Rattle.dg_level.specs.Levels.{list_of};
 
-use crate::answers::values_of;
+use crate::answers::{objects_shown, values_of, values_shown};
 use crate::left::Left;
 use crate::lists::{list_at, lists_of};
 use dg_check::{Filter, OrderKey, Vars};
 use dg_graph::Snapshot;
 use dg_parse::{QArg, QEdge};
 use dg_sets::place_of;
+use dg_tree::Tree;
 use dg_uids::Uids;
 use dg_values::{List, Mem, OutOfMemory, Steps, Value};
 use std::alloc::Global;
@@ -137,6 +139,25 @@ pub fn values_read<S: Snapshot, L: Ledger>(
     ensures { IfOk result (λ v. v.items ≡ values_by (S.graph snap.now) pred.now node) }
 {
     values_of(alloc, snap.objects(alloc, pred, node, reads)?)
+}
+
+/// The tree of the values of a node by a predicate, if there are any: what is known of them isn't read again. The error is want of
+/// memory.
+pub fn tree_under<S: Snapshot, L: Ledger>(
+    alloc: Global,
+    snap: &S,
+    pred: &str,
+    list: bool,
+    node: u64,
+    left: &Left,
+    reads: &mut Steps<L>,
+) -> Mem<Option<Tree>>
+    ensures { KnowsValues (values_by (S.graph snap.now) pred.now) left.now → IfOk result (λ tree. option_to_list tree ≡ values_shown list (values_by (S.graph snap.now) pred.now node)) }
+{
+    match known_values(alloc, left, node)? {
+        Some(values) => values_shown(alloc, list, values),
+        None => objects_shown(alloc, list, snap.objects(alloc, pred, node, reads)?),
+    }
 }
 
 /// The values of a node by a predicate: what is known of them isn't read again. The error is want of memory.

@@ -1,5 +1,6 @@
 // The texts of the nodes of a level.
-ghost use Rattle.std.specs.Prelude.{◌≡◌, ◌↔◌, ◌+◌, ◌<◌, ◌≤◌, ◌++◌, ◌∷◌, [], length, take, slice_index_or, OnOk, OnErr, IsErrOf, IsTrue};
+ghost use Rattle.std.specs.Prelude.{◌≡◌, ◌↔◌, ◌+◌, ◌<◌, ◌≤◌, ◌++◌, ◌∷◌, [], length, take, slice_index_or, IfOk, OnOk, OnErr, IsErrOf, IsTrue};
+ghost use Rattle.std.specs.Str.{IsUtf8};
 ghost use Rattle.dg_tree.specs.Texts.{key_text, tree_text};
 ghost use Rattle.dg_level.specs.Keeping.{last_end};
 ghost use Rattle.dg_level.specs.Rows.{total};
@@ -9,6 +10,9 @@ use dg_values::{Mem, OutOfMemory, Str};
 use std::alloc::Global;
 use std::marker::Model;
 use std::mem;
+
+// The bytes of a row for which there is room at first, so that a short one doesn't grow in steps.
+const ROOM: usize = 64;
 
 /// Texts, one a row, in one buffer, and one more while it is written. All together never pass a limit.
 ///
@@ -44,16 +48,40 @@ fn clear(alloc: Global, text: &mut Str)
     *text = Str::from_string(string);
 }
 
-// Adds a row behind others.
-fn end_row(text: &mut Str, ends: &mut Vec<usize>, row: &str) -> Mem<()>
-    ensures text { OnOk result (text.new ≡ text.old ++ row.now) }
-    ensures ends { OnOk result (ends.new.items ≡ ends.old.items ++ length (text.old ++ row.now) ∷ []) }
+// Moves a row behind others. Where there is none the text takes the row's memory, and nothing is copied.
+fn move_row(alloc: Global, text: &mut Str, row: &mut Str) -> Mem<()>
+    ensures text { OnOk result (text.new ≡ text.old ++ row.old) }
+    ensures row { OnOk result (row.new ≡ []) }
+    ensures utf8 { IsUtf8 row.old }
     ensures err_text { OnErr result (text.new ≡ text.old) }
+    ensures err_row { OnErr result (row.new ≡ row.old) }
+{
+    if row.as_str().is_empty() {
+        return Ok(());
+    }
+    if text.is_empty() {
+        mem::swap(text, row);
+        return Ok(());
+    }
+    text.push_str(row.as_str())?;
+    clear(alloc, row);
+    Ok(())
+}
+
+// Adds a row behind others, which is empty then.
+fn end_row(alloc: Global, text: &mut Str, ends: &mut Vec<usize>, row: &mut Str) -> Mem<()>
+    ensures text { OnOk result (text.new ≡ text.old ++ row.old) }
+    ensures row { OnOk result (row.new ≡ []) }
+    ensures utf8 { OnOk result (IsUtf8 row.old) }
+    ensures ends { OnOk result (ends.new.items ≡ ends.old.items ++ length (text.old ++ row.old) ∷ []) }
+    ensures err_text { OnErr result (text.new ≡ text.old) }
+    ensures err_row { OnErr result (row.new ≡ row.old) }
     ensures err_ends { OnErr result (ends.new.items ≡ ends.old.items) }
 {
     ends.reserve(1)?;
-    text.push_str(row)?;
-    Ok(ends.push(text.len())?)
+    move_row(alloc, text, row)?;
+    ends.push_reserved(text.len());
+    Ok(())
 }
 
 // Where the row at a place begins.
@@ -76,6 +104,19 @@ impl Rows {
             begun: Str::from_string(String::new(alloc)),
             limit,
         }
+    }
+
+    /// The same with room for a short row. The error is want of memory.
+    pub fn with_room(alloc: Global, limit: usize) -> Mem<Rows>
+        ensures { IfOk result (λ rows. rows ≡ record { rows = []; begun = []; limit = limit }) }
+    {
+        Ok(Rows {
+            alloc,
+            text: Str::from_string(String::new(alloc)),
+            ends: Vec::new(alloc),
+            begun: Str::from_string(String::with_capacity(alloc, ROOM)?),
+            limit,
+        })
     }
 
     /// How many bytes all rows have, with the one that is begun.
@@ -103,6 +144,13 @@ impl Rows {
         let from = start_of(self.ends.as_slice(), place);
         let end = start_of(self.ends.as_slice(), place + 1);
         &self.text.as_str()[from..end]
+    }
+
+    /// What is written of the row that is begun.
+    pub fn begun_text(&self) -> &str
+        ensures { result.now ≡ self.now.begun }
+    {
+        self.begun.as_str()
     }
 
     /// Whether nothing stands in the row that is begun.
@@ -160,8 +208,7 @@ impl Rows {
         ensures limit { self.new.limit ≡ self.old.limit }
         ensures err { OnErr result (self.new ≡ self.old) }
     {
-        end_row(&mut self.text, &mut self.ends, self.begun.as_str())?;
-        clear(self.alloc, &mut self.begun);
+        end_row(self.alloc, &mut self.text, &mut self.ends, &mut self.begun)?;
         Ok(())
     }
 }

@@ -99,7 +99,7 @@ fn push_named<S: Snapshot, L: Ledger>(
 {
     let array = array_shown(alloc, snap, block, kept, vars, list, left, reads)?;
     out.key(block.name.as_str())?;
-    out.mark(array.get(0))
+    out.mark(array.begun_text())
 }
 
 // Adds what a block without a function shows, under its name.

@@ -8,9 +8,9 @@ ghost use Rattle.dg_level.specs.Shown.{under};
 ghost use Rattle.dg_level.specs.Columns.{FieldsOf, TreesOf, number_object, is_alone, IsBelow, ShowsBy, Shows, AreShown, shown_by};
 
 use crate::Rows;
-use crate::answers::{value_tree, values_shown};
+use crate::answers::value_tree;
 use crate::column::{Below, Column, Content};
-use crate::known::values_under;
+use crate::known::tree_under;
 use crate::lists::list_at;
 use dg_check::Vars;
 use dg_funcs::{count_along, value_at};
@@ -136,8 +136,7 @@ pub fn push_column<S: Snapshot, L: Ledger>(
             push_tree(rows, key, tree)
         }
         Content::Values { pred, list, known } => {
-            let values = values_under(alloc, snap, pred.as_str(), node, known, reads)?;
-            let tree = values_shown(alloc, *list, values)?;
+            let tree = tree_under(alloc, snap, pred.as_str(), *list, node, known, reads)?;
             push_tree(rows, key, tree)
         }
         Content::Nodes(below) => push_nodes(alloc, rows, key, below, place),
@@ -199,7 +198,7 @@ pub fn written<S: Snapshot, L: Ledger>(
     ensures begun { IfOk result (λ rows. rows.begun ≡ []) }
     ensures too_large { (all : List FieldsOf) → AreShown (S.graph snap.now) vars.now.variables nodes.now columns.now all → IsErrOf result TreeFault.TooLarge → limit < total (map (λ n. row_text (shown_by all n)) nodes.now) }
 {
-    let mut rows = Rows::within(alloc, limit);
+    let mut rows = Rows::with_room(alloc, limit)?;
     for (place, node) in nodes.iter().enumerate() {
         push_row(alloc, snap, &mut rows, columns, vars, place, *node, reads)?;
     }

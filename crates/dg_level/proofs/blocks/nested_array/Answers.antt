@@ -1,4 +1,4 @@
-use Rattle.std.proofs.Common.{◌≡◌, ℕ, ◌<◌, false, List, [], ◌∷◌, ◌++◌, map, length, rules, sym, ap, ◌∙◌, subst}
+use Rattle.std.proofs.Common.{◌≡◌, ℕ, ◌<◌, false, List, ◌++◌, map, length, rules, sym, ap, ◌∙◌, subst}
 use Rattle.std.specs.Ordering.{nat_cmp}
 use Rattle.dg_values.specs.Ascending.{ascending}
 use Rattle.dg_parse.specs.declared.query.QField.{QField}
@@ -8,7 +8,7 @@ use Rattle.dg_tree.specs.Texts.{key_text, array_text}
 use Rattle.dg_level.specs.Columns.{number_object}
 use Rattle.dg_level.specs.Keys.{all_count_keys}
 use Rattle.dg_level.specs.Left.{AreLeft}
-use Rattle.dg_level.specs.Rows.{Written, total, row_text, objects_of, AreOfLevel}
+use Rattle.dg_level.specs.Rows.{total, row_text, objects_of, AreOfLevel}
 use Rattle.dg_level.specs.Shown.{cascades, counts_in, fields_at}
 use Rattle.dg_level.proofs.BlockLaws.{all_there, row_at, array_is, rows_pass, array_passes}
 use Rattle.dg_level.proofs.TextLaws.{text_counts}
@@ -60,7 +60,7 @@ returns-in_err-array-clause-too_large g c = λ ds lawful kinds is known e.
     c.as_slice-3.ensures ∙ (c.in_ok-counts.ensures ∙ (λ i. map key_text (all_count_keys (c.as_slice-fields.ensures i))) ∙ ap (map key_text) (sym (text_counts schema graph ds vars block.fields))) in
     let front : c.as_slice-4.result.now ≡ map (number_object (length list)) (map key_text (counts_in schema graph ds vars block.fields)) =
     c.as_slice-4.ensures.value ∙ (c.in_ok-front.ensures ∙ ap (map (number_object (length list))) keys) in
-    array_passes (counts_in schema graph ds vars block.fields) fields list 16777216 c.within-array.result c.as_slice-4.result.now c.within-array.ensures front
+    array_passes (counts_in schema graph ds vars block.fields) fields list 16777216 c.in_ok-rows.rows c.as_slice-4.result.now c.in_ok-rows.ensures front
     (c.array.ensures.too_large (row_at fields) rows there (search rules))
 
 pub returns-clause-ok : goal.returns-clause-ok
@@ -88,8 +88,6 @@ returns-clause-ok g c = λ ds lawful kinds is known.
     c.as_slice-3.ensures ∙ (c.in_ok-counts.ensures ∙ (λ i. map key_text (all_count_keys (c.as_slice-fields.ensures i))) ∙ ap (map key_text) (sym (text_counts schema graph ds vars block.fields))) in
     let front : c.as_slice-4.result.now ≡ map (number_object (length list)) (map key_text counts) =
     c.as_slice-4.ensures.value ∙ (c.in_ok-front.ensures ∙ ap (map (number_object (length list))) keys) in
-    let before : c.array.new.self.rows ≡ [] = c.array.ensures.rows ∙ ap (λ (w : Written). w.rows) c.within-array.ensures in
     let begun : c.array.new.self.begun ≡ array_text (map (number_object (length list)) (map key_text counts) ++ objects_of (map (row_at fields) list)) =
-    c.in_ok-array.ensures.ok (row_at fields) rows there ∙ (λ i. (c.within-array.ensures i).begun ++ array_text (front i ++ objects_of (map (row_at fields) list))) in
-    let text = begun ∙ sym (array_is counts fields list) in
-    c.in_ok-close.ensures.rows ∙ (λ i. before i ++ text i ∷ [])
+    c.in_ok-array.ensures.ok (row_at fields) rows there ∙ (λ i. (c.in_ok-rows.ensures i).begun ++ array_text (front i ++ objects_of (map (row_at fields) list))) in
+    begun ∙ sym (array_is counts fields list)

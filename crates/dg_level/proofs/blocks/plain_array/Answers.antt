@@ -1,4 +1,4 @@
-use Rattle.std.proofs.Common.{◌≡◌, ◌<◌, Bool, true, false, [], ◌∷◌, length, rules, sym, ap, ◌∙◌, subst}
+use Rattle.std.proofs.Common.{◌≡◌, ◌<◌, Bool, true, false, length, rules, sym, ap, ◌∙◌, subst}
 use Rattle.std.specs.Prelude.{IfOk, if◌then◌else◌}
 use Rattle.std.specs.List.{list_any}
 use Rattle.dg_tree.specs.declared.tree.Tree.TheVariants as trees
@@ -15,7 +15,7 @@ returns-then-normalizes-clause-ok g c = λ ds lawful kinds is known.
     let list = c.args.list.now in
     let yes : c.normalizes.result ≡ true = search rules in
     let flat : true ≡ list_any is_normalize block.dirs = sym yes ∙ (c.normalizes.ensures ∙ ap (list_any is_normalize) c.as_slice.ensures) in
-    subst (λ (b : Bool). IfOk c.flat_array.result (λ rows. rows.rows ≡ tree_text (trees.Array (if b then flat_shown schema graph ds vars block list else nested_shown schema graph ds vars block list)) ∷ [])) flat
+    subst (λ (b : Bool). IfOk c.flat_array.result (λ rows. rows.begun ≡ tree_text (trees.Array (if b then flat_shown schema graph ds vars block list else nested_shown schema graph ds vars block list)))) flat
     (c.flat_array.ensures.ok ds lawful kinds is known)
 
 pub returns-then-normalizes-clause-too_large : goal.returns-then-normalizes-clause-too_large
@@ -39,7 +39,7 @@ returns-clause-ok g c = λ ds lawful kinds is known.
     let list = c.args.list.now in
     let no : c.normalizes.result ≡ false = search rules in
     let flat : false ≡ list_any is_normalize block.dirs = sym no ∙ (c.normalizes.ensures ∙ ap (list_any is_normalize) c.as_slice.ensures) in
-    subst (λ (b : Bool). IfOk c.nested_array.result (λ rows. rows.rows ≡ tree_text (trees.Array (if b then flat_shown schema graph ds vars block list else nested_shown schema graph ds vars block list)) ∷ [])) flat
+    subst (λ (b : Bool). IfOk c.nested_array.result (λ rows. rows.begun ≡ tree_text (trees.Array (if b then flat_shown schema graph ds vars block list else nested_shown schema graph ds vars block list)))) flat
     (c.nested_array.ensures.ok ds lawful kinds is known)
 
 pub returns-clause-too_large : goal.returns-clause-too_large

@@ -1,4 +1,4 @@
-use Rattle.std.proofs.Common.{◌≡◌, ℕ, ◌<◌, List, [], ◌∷◌, ◌++◌, map, rules, sym, ap, ◌∙◌, subst, refl}
+use Rattle.std.proofs.Common.{◌≡◌, ℕ, ◌<◌, List, [], ◌++◌, map, rules, sym, ap, ◌∙◌, subst, refl}
 use Rattle.std.specs.Ordering.{nat_cmp}
 use Rattle.dg_values.specs.Ascending.{ascending}
 use Rattle.dg_parse.specs.declared.query.QField.{QField}
@@ -6,7 +6,7 @@ use Rattle.dg_check.specs.declared.parts.Field.{Field}
 use Rattle.dg_check.specs.Parts.{AreFieldsOf}
 use Rattle.dg_tree.specs.Texts.{array_text}
 use Rattle.dg_level.specs.Recursions.{recursed_at}
-use Rattle.dg_level.specs.Rows.{Written, total, row_text, objects_of, AreOfLevel}
+use Rattle.dg_level.specs.Rows.{total, row_text, objects_of, AreOfLevel}
 use Rattle.dg_level.proofs.BlockLaws.{all_there, row_at, array_is, rows_pass, array_passes}
 use Rattle.dg_level.proofs.blocks.recursed_array.Goals as goal
 
@@ -55,8 +55,6 @@ returns-clause-ok g c = λ ds lawful kinds is.
     let rows : c.in_ok-below.below.rows ≡ map (row_at fields) c.in_ok-level.level =
     c.in_ok-below.ensures.rows ds lawful kinds are ∙ (λ i. map (λ n. row_text (recursed_at schema graph ds vars c.args.recursion.again c.args.recursion.depth (c.as_slice-fields.ensures i) n)) c.in_ok-level.level) in
     let there : AreOfLevel c.in_ok-level.level list = subst (λ (level : List ℕ). AreOfLevel level list) (sym c.in_ok-level.ensures) (all_there list) in
-    let before : c.array.new.self.rows ≡ [] = c.array.ensures.rows ∙ ap (λ (w : Written). w.rows) c.within-array.ensures in
     let begun : c.array.new.self.begun ≡ array_text (objects_of (map (row_at fields) list)) =
     c.in_ok-array.ensures.ok (row_at fields) rows there ∙ (λ i. (c.within-array.ensures i).begun ++ array_text (objects_of (map (row_at fields) list))) in
-    let text = begun ∙ sym (array_is [] fields list) in
-    c.in_ok-close.ensures.rows ∙ (λ i. before i ++ text i ∷ [])
+    begun ∙ sym (array_is [] fields list)

@@ -1,8 +1,8 @@
-use Rattle.std.proofs.Common.{◌≡◌, ℕ, ◌<◌, false, List, [], ◌∷◌, ◌++◌, map, flat_map, rules, sym, ap, ◌∙◌, subst}
+use Rattle.std.proofs.Common.{◌≡◌, ℕ, ◌<◌, false, List, ◌++◌, map, flat_map, rules, sym, ap, ◌∙◌, subst}
 use Rattle.dg_tree.specs.declared.tree.Tree.TheVariants as trees
 use Rattle.dg_tree.specs.Texts.{array_text, tree_text}
 use Rattle.dg_level.specs.Left.{AreLeft}
-use Rattle.dg_level.specs.Rows.{Written, AreOfLevel}
+use Rattle.dg_level.specs.Rows.{AreOfLevel}
 use Rattle.dg_level.specs.Shown.{cascades, objects_at}
 use Rattle.dg_level.specs.FlatLevels.{FlatsOf, weight_of}
 use Rattle.dg_level.proofs.BlockLaws.{all_there}
@@ -39,8 +39,6 @@ returns-clause-ok g c = λ ds lawful kinds is known.
     let flats : FlatsOf = objects_at (g.S.Snapshot.declared c.args.snap.now) (g.S.Snapshot.graph c.args.snap.now) ds c.args.vars.now.variables (cascades false block.dirs) block.fields in
     let below : c.as_slice.result.now ≡ map flats c.in_ok-level.level = c.as_slice.ensures.value ∙ c.in_ok-below.ensures.flats ds lawful kinds is seen in
     let there : AreOfLevel c.in_ok-level.level list = subst (λ (level : List ℕ). AreOfLevel level list) (sym c.in_ok-level.ensures) (all_there list) in
-    let before : c.flat_array.new.self.rows ≡ [] = c.flat_array.ensures.rows ∙ ap (λ (w : Written). w.rows) c.within-array.ensures in
     let begun : c.flat_array.new.self.begun ≡ array_text (map tree_text (map trees.Node (flat_map flats list))) =
     c.in_ok-flat_array.ensures.ok flats below there ∙ (λ i. (c.within-array.ensures i).begun ++ array_text (map tree_text (map trees.Node (flat_map flats list)))) in
-    let text = begun ∙ sym (array_is flats list) in
-    c.in_ok-close.ensures.rows ∙ (λ i. before i ++ text i ∷ [])
+    begun ∙ sym (array_is flats list)

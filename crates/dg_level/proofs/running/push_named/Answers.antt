@@ -1,5 +1,4 @@
 use Rattle.std.proofs.Common.{◌≡◌, ℕ, ◌<◌, List, ◌++◌, length, rules, ap, ◌∙◌, subst}
-use Rattle.std.specs.Prelude.{slice_index_or, []}
 use Rattle.std.proofs.lemmas.Result.{on_ok_weaker}
 use Rattle.dg_tree.specs.Texts.{key_text, tree_text}
 use Rattle.dg_level.specs.Blocks.{array_shown}
@@ -29,7 +28,7 @@ returns-clause-ok g c = λ ds lawful kinds is known.
     let tree = array_shown schema graph ds c.args.vars.now.variables c.args.block.now c.args.list.now in
     let out = c.args.out.now in
     let keyed : c.key.new.self ≡ out ++ key_text name = c.in_ok-key.ensures.ok ∙ ap (λ k. out ++ key_text k) c.as_str.ensures in
-    let row : c.get.result.now ≡ tree_text tree = c.get.ensures ∙ ap (λ (rows : List (List ℕ)). slice_index_or rows 0 []) (c.in_ok-array.ensures.ok ds lawful kinds is known) in
+    let row : c.begun_text.result.now ≡ tree_text tree = c.begun_text.ensures ∙ c.in_ok-array.ensures.ok ds lawful kinds is known in
     on_ok_weaker c.mark.result (λ e. e ∙ ((λ i. keyed i ++ row i) ∙ named name tree out)) c.mark.ensures.ok
 
 pub returns-clause-too_large : goal.returns-clause-too_large
@@ -40,5 +39,5 @@ returns-clause-too_large g c = λ ds lawful kinds is known e.
     let tree = array_shown schema graph ds c.args.vars.now.variables c.args.block.now c.args.list.now in
     let out = c.args.out.now in
     let keyed : c.key.new.self ≡ out ++ key_text name = c.in_ok-key.ensures.ok ∙ ap (λ k. out ++ key_text k) c.as_str.ensures in
-    let row : c.get.result.now ≡ tree_text tree = c.get.ensures ∙ ap (λ (rows : List (List ℕ)). slice_index_or rows 0 []) (c.in_ok-array.ensures.ok ds lawful kinds is known) in
+    let row : c.begun_text.result.now ≡ tree_text tree = c.begun_text.ensures ∙ c.in_ok-array.ensures.ok ds lawful kinds is known in
     subst (λ (w : List ℕ). 16777216 < length w) ((λ i. keyed i ++ row i) ∙ named name tree out) (c.mark.ensures.too_large e)
