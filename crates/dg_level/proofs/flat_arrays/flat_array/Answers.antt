@@ -1,4 +1,4 @@
-use Rattle.std.proofs.Common.{◌≡◌, ℕ, ◌<◌, false, List, ◌++◌, map, flat_map, rules, sym, ap, ◌∙◌, subst}
+use Rattle.std.proofs.Common.{◌≡◌, ℕ, ◌<◌, false, List, ◌++◌, map, flat_map, rules, sym, ◌∙◌, subst}
 use Rattle.dg_tree.specs.declared.tree.Tree.TheVariants as trees
 use Rattle.dg_tree.specs.Texts.{array_text, tree_text}
 use Rattle.dg_level.specs.Left.{AreLeft}

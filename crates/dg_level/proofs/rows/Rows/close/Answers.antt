@@ -1,4 +1,4 @@
-use Rattle.std.proofs.Common.{◌≡◌, ℕ, List, [], ◌∷◌, ◌++◌, sym, ap, ◌∙◌, subst}
+use Rattle.std.proofs.Common.{ℕ, List, [], ◌∷◌, ◌++◌, sym, ap, ◌∙◌, subst}
 use Rattle.dg_level.specs.Rows.{Written}
 use Rattle.dg_level.specs.Keeping.{rows_in, AreKept}
 use Rattle.dg_level.proofs.KeepLemmas.{closed, kept_closed}
