@@ -1,5 +1,5 @@
 #!/usr/bin/env python3
-"""Prints the rows of look-ups of crates/table_groups or crates/table_zero, the last ones there.
+"""Prints the rows of look-ups of crates/table_groups or crates/table_zero, the last ones there but for `section bench`.
 
 `rows_lookups.py stdin groups` prints those of table_groups with their heads, `rows_lookups.py stdout groups` with their answers,
 and so does `zero` for table_zero. The answers come from plain triples alone: each look-up goes over all of a graph.
