@@ -1,5 +1,5 @@
 #!/usr/bin/env python3
-"""Prints the generated rows of crates/table_lists, the last ones there.
+"""Prints the generated rows of crates/table_lists, the last ones there but for `section bench`.
 
 `rows_lists.py stdin` prints them with their heads, and `rows_lists.py stdout` with their answers.
 These come from this model alone, which knows no layers, bases, runs or pages: a list is the set

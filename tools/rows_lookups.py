@@ -1,5 +1,5 @@
 #!/usr/bin/env python3
-"""Prints the rows of look-ups of crates/table_runs or crates/table_zero.
+"""Prints the rows of look-ups of crates/table_runs or crates/table_zero, the last ones there but for `section bench`.
 
 `rows_lookups.py stdin groups` prints those of table_runs, the last ones of its `section groups`, with their heads, and
 `rows_lookups.py stdout groups` with their answers. So does `zero` for table_zero, where they are the last ones. The answers come from plain triples alone: each look-up goes over all of a graph.

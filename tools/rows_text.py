@@ -10,6 +10,7 @@ No line of it was taken from the crates or from what they print. It needs Python
 
 from __future__ import annotations
 
+import itertools
 import json
 import re
 import sys
@@ -515,6 +516,22 @@ TEXTS: dict[str, Callable[[str], str]] = {
 }
 
 
+# The statements of the benchmark's bodies, by their numbers.
+BODIES: dict[str, Callable[[int], str]] = {
+    "names": lambda number: f'_:b{number} <name> "n{number}" .\n',
+    "friends": lambda number: f"<{hex(number)}> <friend> <{hex(number // 2 + 1)}> .\n",
+}
+
+
+def section_bench() -> Iterator[str]:
+    """The lines of the benchmark: how many statements each body has, as many as fit, and how many bytes."""
+    for count in (1_000, 10_000, 100_000):
+        for named, statement_of in BODIES.items():
+            ends = itertools.accumulate(len(statement_of(number)) for number in range(1, count + 1))
+            fitting = [end for end in ends if end <= LONGEST_TEXT]
+            yield f"{len(fitting)} {named} in {fitting[-1]} bytes"
+
+
 def tables() -> dict[str, Callable[[str], str]]:
     others = {"name": row_name, "next": row_next, "word": row_word, "deep": row_deep, "held": Held().row, "tree": row_tree, "size": row_size, "repeat": row_repeat}
     texts = {name: lambda field, row=row: row(of_field(field)) for name, row in TEXTS.items()}
@@ -522,10 +539,14 @@ def tables() -> dict[str, Callable[[str], str]]:
 
 
 def answers(rows: Iterator[str]) -> Iterator[str]:
-    """The line that is wanted for each row; empty lines and comments have none."""
+    """The line that is wanted for each row; empty lines and comments have none, and behind a section no row is read."""
     by_name = tables()
     for row in rows:
         if not row or row.startswith("#"):
+            continue
+        if row == "section bench" and by_name:
+            by_name = {}
+            yield from section_bench()
             continue
         table, _, fields = row.partition("\t")
         try:

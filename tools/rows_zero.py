@@ -1,5 +1,5 @@
 #!/usr/bin/env python3
-"""Prints the generated rows of crates/table_zero, the last ones there.
+"""Prints the generated rows of crates/table_zero, the last ones there but for `section bench`.
 
 `rows_zero.py stdin` prints them with their heads, and `rows_zero.py stdout` with their answers. These come from this
 model alone: a verdict goes over all that was committed, and each graph is made anew out of all commits.

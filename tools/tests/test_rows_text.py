@@ -54,6 +54,11 @@ class Rows(unittest.TestCase):
         for row in ("shema\ta", "says\ta", "tree\tint 1", "tree\tfield q", "held\tcall", "fault\tOther"):
             self.assertEqual(list(rows.answers(iter([row]))), [f"? {row}"])
 
+    def test_behind_the_benchmark_no_row_is_read(self) -> None:
+        given = ["section bench", "name\t3\tab cd", "section bench"]
+        wanted = ["? name\t3\tab cd", "? section bench"]
+        self.assertEqual(list(rows.answers(iter(given)))[6:], wanted)
+
     def test_the_stored_answers_are_these(self) -> None:
         given = (TABLE / "stdin").read_text("utf-8").split("\n")
         self.assertEqual("".join(f"{line}\n" for line in rows.answers(iter(given))), (TABLE / "stdout").read_text("utf-8"))

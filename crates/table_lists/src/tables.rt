@@ -12,6 +12,8 @@ use std::alloc::Global;
 // What rows made, for the rows below them.
 #[derive(Drop)]
 pub(crate) struct Tables {
+    // Whether no row can be read any more.
+    closed: bool,
     base: Option<Base>,
     maps: Vec<Pages<u64, u64>>,
     lists: Vec<KeptList>,
@@ -22,6 +24,7 @@ pub(crate) struct Tables {
 impl Tables {
     pub(crate) fn new(alloc: Global) -> Self {
         Tables {
+            closed: false,
             base: None,
             maps: Vec::new(alloc),
             lists: Vec::new(alloc),
@@ -30,8 +33,18 @@ impl Tables {
         }
     }
 
+    // From now on no row can be read. Answers whether rows could be until now.
+    pub(crate) fn close(&mut self) -> bool {
+        let open = !self.closed;
+        self.closed = true;
+        open
+    }
+
     // The answer of a row.
     pub(crate) fn answer(&mut self, alloc: Global, row: &str) -> Answer<String> {
+        if self.closed {
+            return Err(Fault::Unfit);
+        }
         let words: Vec<&str> = row.split_whitespace().collect(alloc)?;
         let (table, rest) = first(words.as_slice())?;
         let (command, rest) = first(rest)?;

@@ -1,2 +1,4 @@
--- Lemmas on what is known between rows.
+-- Lemmas on what is known between rows, and on what stands beside a state of Zero.
 mod Knowing
+mod Mirroring
+mod Bare

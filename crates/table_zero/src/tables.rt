@@ -11,6 +11,8 @@ use std::alloc::Global;
 // What rows made, for the rows below them.
 #[derive(Drop)]
 pub(crate) struct Tables {
+    // Whether no row can be read any more.
+    closed: bool,
     oracle: Option<KeptOracle<Color>>,
     ground: Option<Ground>,
     zero: Option<KeptZero>,
@@ -19,14 +21,25 @@ pub(crate) struct Tables {
 impl Tables {
     pub(crate) fn new() -> Self {
         Tables {
+            closed: false,
             oracle: None,
             ground: None,
             zero: None,
         }
     }
 
+    // From now on no row can be read. Answers whether rows could be until now.
+    pub(crate) fn close(&mut self) -> bool {
+        let open = !self.closed;
+        self.closed = true;
+        open
+    }
+
     // The answer of a row.
     pub(crate) fn answer(&mut self, alloc: Global, row: &str) -> Answer<String> {
+        if self.closed {
+            return Err(Fault::Unfit);
+        }
         let (table, rest) = halved(row);
         let (command, rest) = halved(rest);
         match table {

@@ -1,4 +1,0 @@
-use Rattle.bench_store.proofs.lists.print_list.Given as goal
-
-abbrev pub ghosts-print_reads : goal.ghosts-print_reads
-ghosts-print_reads g a = record { name = a.blank.name; parts = a.blank.parts }

@@ -1,7 +1,0 @@
-use Rattle.std.specs.List.{AllByRecursion}
-use Rattle.dg_values.specs.Ascending.{Ascends}
-use Rattle.dg_delta.specs.Ops.{op_cmp}
-use Rattle.bench_store.proofs.stores.parts.Given as goal
-
-abbrev pub invariant-loop-subject : goal.invariant-loop-subject
-invariant-loop-subject l = AllByRecursion (λ part. Ascends op_cmp part.ops) l.parts

@@ -1,3 +1,0 @@
--- Lemmas on what stands beside a state of Zero.
-mod Mirroring
-mod Bare

@@ -1,5 +1,0 @@
-use Rattle.bench_zero.specs.Mirrors.{IsMirror}
-use Rattle.bench_zero.proofs.begins.measured.Given as goal
-
-abbrev pub invariant-loop-turn : goal.invariant-loop-turn
-invariant-loop-turn g l = IsMirror l.mirror.zero l.mirror.at

@@ -1,6 +1,0 @@
-use Rattle.std.proofs.Common.{◌≡◌}
-use Rattle.bench_zero.specs.Mirrors.{IsMirror}
-use Rattle.bench_zero.proofs.commits.measured.Given as goal
-
-abbrev pub invariant-loop-turn : goal.invariant-loop-turn
-invariant-loop-turn g l = IsMirror l.mirror.zero l.mirror.at × (l.oracle.line ≡ 0)

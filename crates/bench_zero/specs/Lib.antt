@@ -1,2 +1,0 @@
--- What stands beside a state of Zero.
-pub mod Mirrors

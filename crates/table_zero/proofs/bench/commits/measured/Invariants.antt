@@ -1,0 +1,6 @@
+use Rattle.std.proofs.Common.{◌≡◌}
+use Rattle.table_zero.specs.Mirrors.{IsMirror}
+use Rattle.table_zero.proofs.bench.commits.measured.Given as goal
+
+abbrev pub invariant-loop-turn : goal.invariant-loop-turn
+invariant-loop-turn g l = IsMirror l.mirror.zero l.mirror.at × (l.oracle.line ≡ 0)
