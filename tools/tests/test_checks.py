@@ -147,14 +147,15 @@ class Repository(InFolder):
 
     def test_the_gate_ends_with_the_first_check_that_fails(self) -> None:
         text = (TOP / ".ci" / "run").read_text(encoding="utf-8")
-        self.assertIn("\nRT_JOBS=$jobs rt ci || exit $?\n", text)
+        self.assertIn("\nRT_JOBS=$jobs rt ci; status=$?\n", text)
+        self.assertIn('\n[ "$status" = 0 ] || exit "$status"\n', text)
         (self.folder / "bin").mkdir()
         for status, wanted in ((7, 7), (0, 1)):
             program = self.file("bin/rt", f'#!/bin/sh\necho "rt $*, $RT_JOBS jobs"\nexit {status}\n')
             program.chmod(0o755)
             done = self.run_check("run", f"{self.folder}/bin:/usr/bin:/bin")
             self.assertEqual(done.returncode, wanted, done.stderr)
-            self.assertRegex(done.stdout, r"\Art ci, [1-9][0-9]* jobs\n\Z")
+            self.assertRegex(done.stdout, r"\Art ci, [1-9][0-9]* jobs\nThat took 0 minutes, [1-9][0-9]* checks side by side\.\n\Z")
 
 
 class Statuses(InFolder):
