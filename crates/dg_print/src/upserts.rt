@@ -6,8 +6,8 @@ ghost use Rattle.dg_print.specs.PrintedUpsert as spec;
 use crate::blocks::push_query;
 use crate::brackets::Within;
 use crate::conditions::push_condition;
-use dg_parse::{UCond, UMut, Upsert};
 use dg_nquad::printing::groups_text;
+use dg_parse::{UCond, UMut, Upsert};
 use dg_values::{Mem, OutOfMemory, Str};
 use std::alloc::Global;
 
