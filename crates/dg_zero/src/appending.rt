@@ -44,7 +44,11 @@ fn put(chain: &mut Chain, slip: Slip, what: What)
     ensures count { recorded chain.new ≡ recorded chain.old + count_of what }
     ensures entries { (records : List Record) → entries_of records chain.new ≡ and_entry (entries_of records chain.old) slip (event_of (entries_of records chain.old) (get_or records (recorded chain.old) no_record) what) }
 {
-    let Slip { author, mut room } = slip;
+    let Slip {
+        author,
+        mut room,
+        ..
+    } = slip;
     *room = mem::replace(chain, Chain::Spent(0));
     *chain = Chain::After(room, Kept { author, what });
 }

@@ -20,24 +20,10 @@ pub(crate) fn answer(
             Ok(keys.len().to_string(alloc)?)
         }
         "put" => kept(alloc, keys, conflict(alloc, words)?),
-        "place" => place(alloc, keys.as_slice(), &conflict(alloc, words)?),
         "keys" => copied(alloc, keys.as_slice()),
-        "text" => Ok(text_behind(alloc, "", &conflict(alloc, words)?)?),
-        "copy" => Ok(text_behind(alloc, "", &conflict(alloc, words)?.copy(alloc)?)?),
-        "append" => {
-            let (front, words) = first(words)?;
-            let front = text(alloc, front)?;
-            Ok(text_behind(alloc, front.as_str(), &conflict(alloc, words)?)?)
-        }
-        _ => {
-            let (before, behind) = halves(words, "|")?;
-            compared(
-                alloc,
-                command,
-                &conflict(alloc, before)?,
-                &conflict(alloc, behind)?,
-            )
-        }
+        "append" => appended(alloc, words),
+        "place" | "text" | "copy" => of_one(alloc, keys.as_slice(), command, words),
+        _ => of_two(alloc, command, words),
     }
 }
 
@@ -48,6 +34,49 @@ fn kept(alloc: Global, keys: &mut Vec<ConflictKey>, key: ConflictKey) -> Answer<
     }
     put(keys, key)?;
     Ok(keys.len().to_string(alloc)?)
+}
+
+// What the command asks of one key.
+fn of_one(alloc: Global, keys: &[ConflictKey], command: &str, words: &[&str]) -> Answer<String> {
+    let key = conflict(alloc, words)?;
+    let answer = asked_of(alloc, keys, command, &key);
+    drop(key);
+    answer
+}
+
+fn asked_of(
+    alloc: Global,
+    keys: &[ConflictKey],
+    command: &str,
+    key: &ConflictKey,
+) -> Answer<String> {
+    match command {
+        "place" => place(alloc, keys, key),
+        "copy" => text_of_copy(alloc, key),
+        _ => Ok(text_behind(alloc, "", key)?),
+    }
+}
+
+// The text of a copy of a key.
+fn text_of_copy(alloc: Global, key: &ConflictKey) -> Answer<String> {
+    let copy = key.copy(alloc)?;
+    let text = text_behind(alloc, "", &copy);
+    drop(copy);
+    Ok(text?)
+}
+
+// The text that words begin with, and behind it that of the key that the others stand for.
+fn appended(alloc: Global, words: &[&str]) -> Answer<String> {
+    let (front, words) = first(words)?;
+    let key = conflict(alloc, words)?;
+    let answer = text_behind_word(alloc, front, &key);
+    drop(key);
+    answer
+}
+
+fn text_behind_word(alloc: Global, front: &str, key: &ConflictKey) -> Answer<String> {
+    let front = text(alloc, front)?;
+    Ok(text_behind(alloc, front.as_str(), key)?)
 }
 
 // Where a key is among those that are kept, or belongs.
@@ -81,6 +110,22 @@ fn text_behind(alloc: Global, front: &str, key: &ConflictKey) -> Mem<String> {
 }
 
 // Two keys, compared in the way that the command names.
+fn of_two(alloc: Global, command: &str, words: &[&str]) -> Answer<String> {
+    let (before, behind) = halves(words, "|")?;
+    let a = conflict(alloc, before)?;
+    let answer = beside(alloc, command, &a, behind);
+    drop(a);
+    answer
+}
+
+// A key, and the one that words stand for.
+fn beside(alloc: Global, command: &str, a: &ConflictKey, words: &[&str]) -> Answer<String> {
+    let b = conflict(alloc, words)?;
+    let answer = compared(alloc, command, a, &b);
+    drop(b);
+    answer
+}
+
 fn compared(alloc: Global, command: &str, a: &ConflictKey, b: &ConflictKey) -> Answer<String> {
     match command {
         "compare" => Ok(order(alloc, cmp_conflict(a, b))?),

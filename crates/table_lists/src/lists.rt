@@ -56,20 +56,26 @@ fn grown(alloc: Global, list: &KeptList, count: u64) -> Answer<KeptList> {
 
 fn asked(alloc: Global, list: &KeptList, command: &str, words: &[&str]) -> Answer<String> {
     match (command, words) {
-        ("read", [ts]) => {
-            let items = list.read(alloc, number(ts)?)?;
-            Ok(postings_text(alloc, items.as_slice())?)
-        }
-        ("merged", [ts]) => {
-            let base = list.merged(alloc, number(ts)?)?;
-            let items = base.walk(alloc, 0, base.len())?;
-            Ok(postings_text(alloc, items.as_slice())?)
-        }
-        ("has", [ts, item]) => {
-            let item = posting(alloc, item)?;
-            Ok(truth(alloc, list.has(number(ts)?, &item)?)?)
-        }
+        ("read", [ts]) => read(alloc, list, number(ts)?),
+        ("merged", [ts]) => merged(alloc, list, number(ts)?),
+        ("has", [ts, item]) => has(alloc, list, number(ts)?, item),
         ("layered", [ts]) => Ok(truth(alloc, list.layered(number(ts)?))?),
         _ => Err(Fault::Unfit),
     }
+}
+
+fn read(alloc: Global, list: &KeptList, ts: u64) -> Answer<String> {
+    let items = list.read(alloc, ts)?;
+    Ok(postings_text(alloc, items.as_slice())?)
+}
+
+fn merged(alloc: Global, list: &KeptList, ts: u64) -> Answer<String> {
+    let base = list.merged(alloc, ts)?;
+    let items = base.walk(alloc, 0, base.len())?;
+    Ok(postings_text(alloc, items.as_slice())?)
+}
+
+fn has(alloc: Global, list: &KeptList, ts: u64, item: &str) -> Answer<String> {
+    let item = posting(alloc, item)?;
+    Ok(truth(alloc, list.has(ts, &item)?)?)
 }

@@ -25,22 +25,43 @@ pub(crate) fn print_beside(
     let row = Row { size, timed };
     let paged = paged(alloc, size)?;
     let plain = plain(alloc, size)?;
-    let keys = keys(alloc, size)?;
-    // Each is gone over once before its time begins, so that it doesn't matter which of them was made last.
-    let _warm = look(&paged, keys.as_slice());
+    print_looks(rt, alloc, row, &paged, &plain)?;
+    print_puts(rt, alloc, row, &paged, &plain)
+}
+
+// Those of look-ups. Each map is gone over once before its time begins, so that it doesn't matter which of them was made last.
+fn print_looks(
+    rt: &(impl Print + Clock),
+    alloc: Global,
+    row: Row,
+    paged: &Pages<u64, u64>,
+    plain: &PlainMap<u64, u64>,
+) -> Result<()> {
+    let keys = keys(alloc, row.size)?;
+    let _warm = look(paged, keys.as_slice());
     let since = begin(rt, alloc)?;
-    let found = look(&paged, keys.as_slice());
+    let found = look(paged, keys.as_slice());
     print_row(rt, row, "pairs, get", LOOKED, since, found)?;
-    let _warm = look_plain(&plain, keys.as_slice());
+    let _warm = look_plain(plain, keys.as_slice());
     let since = begin(rt, alloc)?;
-    let found = look_plain(&plain, keys.as_slice());
-    print_row(rt, row, "plain pairs, get", LOOKED, since, found)?;
+    let found = look_plain(plain, keys.as_slice());
+    print_row(rt, row, "plain pairs, get", LOOKED, since, found)
+}
+
+// Those of pairs that are put.
+fn print_puts(
+    rt: &(impl Print + Clock),
+    alloc: Global,
+    row: Row,
+    paged: &Pages<u64, u64>,
+    plain: &PlainMap<u64, u64>,
+) -> Result<()> {
     let since = begin(rt, alloc)?;
-    let made = put(alloc, &paged, size)?;
+    let made = put(alloc, paged, row.size)?;
     print_row(rt, row, "pairs, one put", PUT, since, made)?;
-    let puts = plain_puts(size);
+    let puts = plain_puts(row.size);
     let since = begin(rt, alloc)?;
-    let made = put_plain(alloc, &plain, size, puts)?;
+    let made = put_plain(alloc, plain, row.size, puts)?;
     print_row(rt, row, "plain pairs, one put", puts, since, made)
 }
 

@@ -183,33 +183,80 @@ fn print_merge<L: Ledger>(
 ) -> Result<()>
     requires { list.now.base_ts ≡ 0 }
 {
-    let newest = row.size;
-    let calls = calls_over(newest);
+    let call = "layers, read_at of the newest";
+    print_read(rt, alloc, row, call, list, reads)?;
+    let base = print_merged(rt, alloc, row, list, reads)?;
+    let rolled = roll(alloc, list, base, row.size)?;
+    print_read(rt, alloc, row, "in a base, read_at", &rolled, reads)?;
+    print_plain(rt, alloc, row, list, reads)?;
+    print_found(rt, alloc, row, &rolled, reads)?;
+    print_roll(rt, alloc, row, list, reads)
+}
+
+// Prints what it costs to read the newest of a list.
+fn print_read<L: Ledger>(
+    rt: &(impl Print + Clock),
+    alloc: Global,
+    row: Row,
+    call: &str,
+    list: &PList,
+    reads: &mut Steps<L>,
+) -> Result<()>
+    requires { list.now.base_ts ≤ row.size }
+{
+    let calls = calls_over(row.size);
     let since = begin(rt, alloc)?;
-    let found = read(alloc, list, newest, calls, reads)?;
-    print_row(
-        rt,
-        row,
-        "layers, read_at of the newest",
-        calls,
-        since,
-        found,
-    )?;
+    let found = read(alloc, list, row.size, calls, reads)?;
+    print_row(rt, row, call, calls, since, found)
+}
+
+// Prints what it costs to merge a list into a base, and answers that.
+fn print_merged<L: Ledger>(
+    rt: &(impl Print + Clock),
+    alloc: Global,
+    row: Row,
+    list: &PList,
+    reads: &mut Steps<L>,
+) -> Result<Arc<Base>>
+    requires { list.now.base_ts ≡ 0 }
+    ensures { IfOk result (λ base. arc_value base ≡ reading list.now row.size) }
+{
     let since = begin(rt, alloc)?;
-    let base = merge(alloc, list, newest, reads)?;
+    let base = merge(alloc, list, row.size, reads)?;
     print_row(rt, row, "layers, merged", 1, since, base.len() as u64)?;
-    let rolled = roll(alloc, list, base, newest)?;
-    let since = begin(rt, alloc)?;
-    let found = read(alloc, &rolled, newest, calls, reads)?;
-    print_row(rt, row, "in a base, read_at", calls, since, found)?;
-    let plain = plain(alloc, list, newest, reads)?;
+    Ok(base)
+}
+
+// Prints what it costs to read the same of a plain base.
+fn print_plain<L: Ledger>(
+    rt: &(impl Print + Clock),
+    alloc: Global,
+    row: Row,
+    list: &PList,
+    reads: &mut Steps<L>,
+) -> Result<()>
+    requires { list.now.base_ts ≡ 0 }
+{
+    let calls = calls_over(row.size);
+    let plain = plain(alloc, list, row.size, reads)?;
     let since = begin(rt, alloc)?;
     let found = read_plain(alloc, &plain, calls)?;
-    print_row(rt, row, "in a plain base, read_at", calls, since, found)?;
+    print_row(rt, row, "in a plain base, read_at", calls, since, found)
+}
+
+// Prints what it costs to find the newest node in a base.
+fn print_found<L: Ledger>(
+    rt: &(impl Print + Clock),
+    alloc: Global,
+    row: Row,
+    rolled: &PList,
+    reads: &mut Steps<L>,
+) -> Result<()>
+    requires { rolled.now.base_ts ≤ row.size }
+{
     let since = begin(rt, alloc)?;
-    let found = look(&rolled, newest, newest, CALLS, reads);
-    print_row(rt, row, "in a base, has_at", CALLS, since, found)?;
-    print_roll(rt, alloc, row, list, reads)
+    let found = look(rolled, row.size, row.size, CALLS, reads);
+    print_row(rt, row, "in a base, has_at", CALLS, since, found)
 }
 
 // Prints what it costs to put a base under the newer half of the layers.

@@ -22,53 +22,65 @@ pub(crate) fn print_map(
     timed: bool,
 ) -> Result<()> {
     let row = Row { size, timed };
+    print_all(rt, alloc, row, "pairs, put at once", false)?;
+    print_all(rt, alloc, row, "pairs, put at once, shuffled", true)?;
+    print_each(rt, alloc, row)?;
+    print_in_place(rt, alloc, row)
+}
+
+// Those of a map that is made of all at once.
+fn print_all(
+    rt: &(impl Print + Clock),
+    alloc: Global,
+    row: Row,
+    call: &str,
+    is_shuffled: bool,
+) -> Result<()> {
     let since = begin(rt, alloc)?;
-    let map = with_all(alloc, size, false)?;
-    print_row(rt, row, "pairs, put at once", 1, since, last(&map, size))?;
+    let map = with_all(alloc, row.size, is_shuffled)?;
+    print_row(rt, row, call, 1, since, last(&map, row.size))
+}
+
+// Those of a map that is made anew for each pair.
+fn print_each(rt: &(impl Print + Clock), alloc: Global, row: Row) -> Result<()> {
+    let call = "pairs, each put by itself, shuffled";
     let since = begin(rt, alloc)?;
-    let map = with_all(alloc, size, true)?;
-    print_row(
-        rt,
-        row,
-        "pairs, put at once, shuffled",
-        1,
-        since,
-        last(&map, size),
-    )?;
+    let map = with_each(alloc, row.size)?;
+    print_row(rt, row, call, row.size, since, last(&map, row.size))
+}
+
+// Those of a map into which each pair is put in place, and of changes to it.
+fn print_in_place(rt: &(impl Print + Clock), alloc: Global, row: Row) -> Result<()> {
+    let call = "pairs, each put in place, shuffled";
     let since = begin(rt, alloc)?;
-    let map = with_each(alloc, size)?;
-    print_row(
-        rt,
-        row,
-        "pairs, each put by itself, shuffled",
-        size,
-        since,
-        last(&map, size),
-    )?;
+    let map = put_each(alloc, row.size)?;
+    print_row(rt, row, call, row.size, since, last(&map, row.size))?;
+    print_changes(rt, alloc, row, &map)
+}
+
+// Those of many changes together, spread and shuffled.
+fn print_changes(
+    rt: &(impl Print + Clock),
+    alloc: Global,
+    row: Row,
+    map: &Pages<u64, u64>,
+) -> Result<()> {
+    print_changed(rt, alloc, row, map, "pairs, 100 changed at once", false)?;
+    let call = "pairs, 100 changed at once, shuffled";
+    print_changed(rt, alloc, row, map, call, true)
+}
+
+fn print_changed(
+    rt: &(impl Print + Clock),
+    alloc: Global,
+    row: Row,
+    map: &Pages<u64, u64>,
+    call: &str,
+    is_shuffled: bool,
+) -> Result<()> {
     let since = begin(rt, alloc)?;
-    let map = put_each(alloc, size)?;
-    print_row(
-        rt,
-        row,
-        "pairs, each put in place, shuffled",
-        size,
-        since,
-        last(&map, size),
-    )?;
-    let since = begin(rt, alloc)?;
-    let made = changed(alloc, &map, size, false)?;
-    print_row(rt, row, "pairs, 100 changed at once", TIMES, since, made)?;
-    let since = begin(rt, alloc)?;
-    let made = changed(alloc, &map, size, true)?;
-    print_row(
-        rt,
-        row,
-        "pairs, 100 changed at once, shuffled",
-        TIMES,
-        since,
-        made,
-    )?;
-    Ok(())
+    let made = changed(alloc, map, row.size, is_shuffled)?;
+    print_row(rt, row, call, TIMES, since, made)
 }
 
 // The value of the last key, which is its number.

@@ -39,22 +39,57 @@ pub(crate) fn print_store(
 ) -> Result<()> {
     let row = Row { size, timed };
     let held = held(alloc)?;
-    let rec = record(alloc, 1, 1, size)?;
+    let store = print_made(rt, alloc, row, held.as_slice())?;
+    print_looks(rt, alloc, row, &store, held.as_slice())
+}
+
+// Prints what the record costs that makes a store, and answers that.
+fn print_made(rt: &(impl Print + Clock), alloc: Global, row: Row, held: &[Str]) -> Result<Store>
+    ensures { IfOk result (λ store. AllByRecursion (λ e. newest_ts e.1 < 1 + 1) store) }
+{
+    let rec = record(alloc, 1, 1, row.size)?;
     let since = begin(rt, alloc)?;
-    let store = filled(alloc, &rec, held.as_slice())?;
-    print_row(rt, row, "keys, the record that made them", 1, since, size)?;
-    let keys = keys(alloc, size)?;
+    let store = filled(alloc, &rec, held)?;
+    let call = "keys, the record that made them";
+    print_row(rt, row, call, 1, since, row.size)?;
+    Ok(store)
+}
+
+// Prints what keys cost to look up, then what a record costs that changes one, and both in a plain map.
+fn print_looks(
+    rt: &(impl Print + Clock),
+    alloc: Global,
+    row: Row,
+    store: &Store,
+    held: &[Str],
+) -> Result<()>
+    requires { AllByRecursion (λ e. newest_ts e.1 < 1 + 1) store.now }
+{
+    let keys = keys(alloc, row.size)?;
     // All keys are gone over once before the time begins, and in a plain map too: so it doesn't matter which was made last.
-    let _warm = look(&store, keys.as_slice());
+    let _warm = look(store, keys.as_slice());
     let since = begin(rt, alloc)?;
-    let found = look(&store, keys.as_slice());
+    let found = look(store, keys.as_slice());
     print_row(rt, row, "keys, get", LOOKED, since, found)?;
-    let middle = size / 2;
+    print_changed(rt, alloc, row, store, held)?;
+    print_plain(rt, alloc, row, keys.as_slice())
+}
+
+// Prints what a record costs that changes one key.
+fn print_changed(
+    rt: &(impl Print + Clock),
+    alloc: Global,
+    row: Row,
+    store: &Store,
+    held: &[Str],
+) -> Result<()>
+    requires { AllByRecursion (λ e. newest_ts e.1 < 1 + 1) store.now }
+{
+    let middle = row.size / 2;
     let rec = record(alloc, 2, middle, middle)?;
     let since = begin(rt, alloc)?;
-    let found = change(alloc, &store, &rec, held.as_slice())?;
-    print_row(rt, row, "keys, with_record of one", CHANGED, since, found)?;
-    print_plain(rt, alloc, row, keys.as_slice())
+    let found = change(alloc, store, &rec, held)?;
+    print_row(rt, row, "keys, with_record of one", CHANGED, since, found)
 }
 
 // Prints what the same keys cost in a plain map, where no record is read and no list is made.

@@ -17,8 +17,8 @@ const MADE: u64 = 100_000;
 // How many bytes a page of memory has.
 const PAGE: u64 = 4_096;
 
-// Prints what each of many transactions leaves. All stay in memory until the last has been told: what is let go would be used
-// again by the next.
+// Prints what each of many transactions leaves. All stay in memory until the last has been told, as what is let go would be used
+// again by the next: so each of these functions calls the next while it holds what it made.
 pub(crate) fn print_bytes(
     rt: &(impl Print + Files + Alloc<A = Global>),
     alloc: Global,
@@ -27,13 +27,28 @@ pub(crate) fn print_bytes(
     let before = resident(rt)?;
     pass(alloc, &mut mirror, MADE)?;
     print_each(rt, "begin with its end", before)?;
+    print_commits(rt, alloc)
+}
+
+// Those of commits, and then the oracle's.
+fn print_commits(rt: &(impl Print + Files + Alloc<A = Global>), alloc: Global) -> Result<()> {
     let before = resident(rt)?;
     let _committed = filled(alloc, MADE, Subjects::Same)?;
     print_each(rt, "begin with its commit of one subject", before)?;
+    print_ends_alone(rt, alloc)
+}
+
+// Those of the oracle alone: of ends, and then of commits.
+fn print_ends_alone(rt: &(impl Print + Files + Alloc<A = Global>), alloc: Global) -> Result<()> {
     let mut ended = oracle(alloc)?;
     let before = resident(rt)?;
     pass_alone(&mut ended, MADE)?;
     print_each(rt, "begin with its end, the oracle alone", before)?;
+    print_commits_alone(rt, alloc)
+}
+
+// Those of commits to the oracle alone.
+fn print_commits_alone(rt: &(impl Print + Files + Alloc<A = Global>), alloc: Global) -> Result<()> {
     let before = resident(rt)?;
     let _alone = filled_alone(alloc)?;
     print_each(
