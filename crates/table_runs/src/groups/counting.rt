@@ -127,11 +127,11 @@ impl Counting {
         requires made_of { IsMadeOf (schema_at self.old.history offer.start) (graph_at self.old.history offer.start []) offer.changes offer.keys offer.parts }
         ensures stay { StayOpen self.old self.new }
     {
-        let slip = Slip::new(alloc, author)?;
         let start = offer.start;
         if !is_active_of(self.starts.as_slice(), start, author) {
             return Err(Fault::Unfit);
         }
+        let slip = Slip::new(alloc, author)?;
         match self.owned.commit(slip, offer) {
             Ok(ts) => {
                 drop_start(&mut self.starts, start);
