@@ -22,12 +22,12 @@ pub fn alter<C: Cluster>(alloc: Global, cluster: &mut C, author: u32, body: &[u8
     requires size { length body.now ≤ 1048576 }
     requires own { C.takes cluster.old author ≡ true }
     requires author { author ≡ 0 }
-    requires legal { IsLegal (C.zero cluster.old).groups (C.zero cluster.old).history }
     ensures same { C.takes cluster.new ≡ C.takes cluster.old }
     ensures ok { IfOk result (λ reply. Meets (C.takes cluster.old) (C.zero cluster.old) (C.zero cluster.new) (Alters author (λ m n. alters m body.now ≡ (reply, n)))) }
     ensures err { OnErr result (Meets (C.takes cluster.old) (C.zero cluster.old) (C.zero cluster.new) (Alters author (λ m n. n ≡ m))) }
     ensures legal { IsLegal (C.zero cluster.new).groups (C.zero cluster.new).history }
 {
+    cluster.history_is_legal();
     match str::from_utf8(body) {
         Ok(text) => alter_by(alloc, cluster, author, text),
         Err(fault) => Ok(Reply::Refused(Refusal::BadToken {

@@ -88,7 +88,7 @@ impl ClusterFault {
 /// One caller's view of the state that coordinates all, with its groups. Contracts see the number of groups and the history
 /// as the caller has seen it, and a test of authors: those that the caller takes, by whom no one else appends.
 ///
-/// Each call but `declared` appends one entry of its slip's author. Before it there may come entries of others, which the
+/// Each call but `declared` and `history_is_legal` appends one entry of its slip's author. Before it there may come entries of others, which the
 /// caller sees then; what the call answers is said over the history that it meets with them. A call that is refused
 /// appends a look. After want of memory some groups may have come further.
 pub trait Cluster {
@@ -171,4 +171,8 @@ pub trait Cluster {
     fn declared(&self, pred: &str) -> bool
         requires own { takes self.now 0 ≡ true }
         ensures { result ≡ is_declared (schema (zero self.now).history) pred.now };
+
+    /// The history that the caller has seen is legal: so a cluster's type keeps it. It does nothing.
+    fn history_is_legal(&self)
+        ensures { IsLegal (zero self.now).groups (zero self.now).history };
 }

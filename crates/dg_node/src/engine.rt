@@ -168,8 +168,16 @@ impl Engine {
         ensures grows { IsFrontOf (P.refused patterns.old) (P.refused patterns.new) }
     {
         match place_of(self.slots.as_slice(), sid) {
-            Some(place) => query(alloc, &self.slots[place].txn, sid, body, patterns),
-            None => query(alloc, &None, sid, body, patterns),
+            Some(place) => query(
+                alloc,
+                &self.cluster,
+                &self.slots[place].txn,
+                AUTHOR,
+                sid,
+                body,
+                patterns,
+            ),
+            None => query(alloc, &self.cluster, &None, AUTHOR, sid, body, patterns),
         }
     }
 

@@ -46,7 +46,6 @@ pub fn mutate<C: Cluster>(
 ) -> Mem<Reply>
     requires size { length body.now ≤ 1048576 }
     requires own { C.takes cluster.old author ≡ true }
-    requires legal { IsLegal (C.zero cluster.old).groups (C.zero cluster.old).history }
     requires session { IsSession (C.zero cluster.old) author session.old }
     ensures same { C.takes cluster.new ≡ C.takes cluster.old }
     ensures ok { IfOk result (λ reply. Meets (C.takes cluster.old) (C.zero cluster.old) (C.zero cluster.new) (Serves author sid session.old session.new (λ m n. Mutates m sid body.now reply n))) }
@@ -56,6 +55,7 @@ pub fn mutate<C: Cluster>(
     ensures session { IsSession (C.zero cluster.new) author session.new }
     ensures legal { IsLegal (C.zero cluster.new).groups (C.zero cluster.new).history }
 {
+    cluster.history_is_legal();
     match session {
         None => Ok(no_session(sid)),
         Some(txn) => match str::from_utf8(body) {

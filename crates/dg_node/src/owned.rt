@@ -292,4 +292,8 @@ impl Cluster for Owned {
     fn declared(&self, pred: &str) -> bool {
         self.zero.schema().lookup(pred).is_some()
     }
+
+    fn history_is_legal(&self) {
+        let _ = &self.zero;
+    }
 }

@@ -1,5 +1,5 @@
 // What `query` does.
-ghost use Rattle.std.specs.Prelude.{◌≡◌, ◌≢◌, ◌≤◌, ◌<◌, ℕ, None, length, IfOk, IsOk};
+ghost use Rattle.std.specs.Prelude.{◌≡◌, ◌≢◌, ◌≤◌, ◌<◌, None, length, IfOk, IsOk};
 ghost use Rattle.dg_check.specs.Outcomes.{IsPlanOf, IsQueryOutcome};
 ghost use Rattle.dg_check.specs.Patterns.{IsFrontOf};
 ghost use Rattle.dg_check.specs.declared.fault.CheckFault.TheVariants as faults;
@@ -9,9 +9,8 @@ ghost use Rattle.dg_txn.specs.Own.{graph};
 ghost use Rattle.dg_node.specs.Machine.{Machine};
 ghost use Rattle.dg_node.specs.Queries.{Queries, QueriesAs, QueriesBy, answer_or_fault, refusal_of_check};
 ghost use Rattle.dg_node.specs.Sessions.{IsSession, Sees};
-ghost use Rattle.dg_zero.specs.Legal.{IsLegal};
-ghost use Rattle.dg_zero.specs.States.{Zero};
 
+use crate::cluster::Cluster;
 use crate::transactions::no_session;
 use dg_check::{CheckFault, Patterns, Plan, check};
 use dg_graph::Snapshot;
@@ -29,17 +28,22 @@ use std::sync::ledger::{Blank, Ledger};
 ///
 /// `NoSession` comes where the session has no transaction; then `BadToken`, `TooDeep` and `BadSyntax` at a fault of the text;
 /// then what the checks find; then `SumOverflow` at a sum that is no number of 64 bits; then `AnswerTooLarge`. The error is want of memory.
-pub fn query<P: Patterns>(
+pub fn query<C: Cluster, P: Patterns>(
     alloc: Global,
+    cluster: &C,
     session: &Option<Txn>,
+    author: u32,
     sid: u32,
     body: &[u8],
     patterns: &mut P,
 ) -> Mem<Reply>
     requires size { length body.now ≤ 1048576 }
-    ensures answered { (author : ℕ) (zero : Zero) → IsLegal zero.groups zero.history → IsSession zero author session.now → IfOk result (λ reply. Sees sid session.now (λ m n. Queries (P.refused patterns.new) m sid body.now reply n) zero) }
+    requires session { IsSession (C.zero cluster.now) author session.now }
+    ensures answered { IfOk result (λ reply. Sees sid session.now (λ m n. Queries (P.refused patterns.new) m sid body.now reply n) (C.zero cluster.now)) }
     ensures grows { IsFrontOf (P.refused patterns.old) (P.refused patterns.new) }
 {
+    let _ = author;
+    cluster.history_is_legal();
     let Some(txn) = session else {
         return Ok(no_session(sid));
     };

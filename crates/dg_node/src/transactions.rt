@@ -30,7 +30,6 @@ pub fn begin<C: Cluster>(
     sid: u32,
 ) -> Mem<Reply>
     requires own { C.takes cluster.old author ≡ true }
-    requires legal { IsLegal (C.zero cluster.old).groups (C.zero cluster.old).history }
     requires session { IsSession (C.zero cluster.old) author session.old }
     ensures same { C.takes cluster.new ≡ C.takes cluster.old }
     ensures ok { IfOk result (λ reply. Meets (C.takes cluster.old) (C.zero cluster.old) (C.zero cluster.new) (Serves author sid session.old session.new (λ m n. begun m sid ≡ (reply, n)))) }
@@ -39,6 +38,7 @@ pub fn begin<C: Cluster>(
     ensures session { IsSession (C.zero cluster.new) author session.new }
     ensures legal { IsLegal (C.zero cluster.new).groups (C.zero cluster.new).history }
 {
+    cluster.history_is_legal();
     if session.is_some() {
         return Ok(Reply::Refused(Refusal::SessionOpen { sid }));
     }
@@ -119,13 +119,13 @@ pub fn discard<C: Cluster>(
     sid: u32,
 ) -> Reply
     requires own { C.takes cluster.old author ≡ true }
-    requires legal { IsLegal (C.zero cluster.old).groups (C.zero cluster.old).history }
     requires session { IsSession (C.zero cluster.old) author session.old }
     ensures same { C.takes cluster.new ≡ C.takes cluster.old }
     ensures ok { Meets (C.takes cluster.old) (C.zero cluster.old) (C.zero cluster.new) (Serves author sid session.old session.new (λ m n. discarded m sid ≡ (result, n))) }
     ensures closed { session.new ≡ None }
     ensures legal { IsLegal (C.zero cluster.new).groups (C.zero cluster.new).history }
 {
+    cluster.history_is_legal();
     let _ = author;
     match session.take() {
         Some(txn) => {
@@ -149,7 +149,6 @@ pub fn commit<C: Cluster>(
     sid: u32,
 ) -> Mem<Reply>
     requires own { C.takes cluster.old author ≡ true }
-    requires legal { IsLegal (C.zero cluster.old).groups (C.zero cluster.old).history }
     requires session { IsSession (C.zero cluster.old) author session.old }
     ensures same { C.takes cluster.new ≡ C.takes cluster.old }
     ensures ok { IfOk result (λ reply. Meets (C.takes cluster.old) (C.zero cluster.old) (C.zero cluster.new) (Serves author sid session.old session.new (λ m n. committed m sid ≡ (reply, n)))) }
@@ -159,6 +158,7 @@ pub fn commit<C: Cluster>(
     ensures session { IsSession (C.zero cluster.new) author session.new }
     ensures legal { IsLegal (C.zero cluster.new).groups (C.zero cluster.new).history }
 {
+    cluster.history_is_legal();
     let Some(txn) = &*session else {
         return Ok(no_session(sid));
     };

@@ -49,7 +49,6 @@ pub fn upsert<C: Cluster, P: Patterns>(
 ) -> Mem<Reply>
     requires size { length body.now ≤ 1048576 }
     requires own { C.takes cluster.old author ≡ true }
-    requires legal { IsLegal (C.zero cluster.old).groups (C.zero cluster.old).history }
     requires session { IsSession (C.zero cluster.old) author session.old }
     ensures same { C.takes cluster.new ≡ C.takes cluster.old }
     ensures ok { IfOk result (λ reply. Meets (C.takes cluster.old) (C.zero cluster.old) (C.zero cluster.new) (Serves author sid session.old session.new (λ m n. Upserts (P.refused patterns.new) m sid body.now reply n))) }
@@ -60,6 +59,7 @@ pub fn upsert<C: Cluster, P: Patterns>(
     ensures legal { IsLegal (C.zero cluster.new).groups (C.zero cluster.new).history }
     ensures grows { IsFrontOf (P.refused patterns.old) (P.refused patterns.new) }
 {
+    cluster.history_is_legal();
     match session {
         None => Ok(no_session(sid)),
         Some(txn) => match str::from_utf8(body) {

@@ -22,5 +22,5 @@ pub returns-in-Err-clause-ok : goal.returns-in-Err-clause-ok
 returns-in-Err-clause-ok g c =
     let body = c.args.body.now in
     let at : utf8_valid_len body ≡ c.valid_up_to.result = sym (c.valid_up_to.ensures ∙ c.in-Err.ensures.valid_len) in
-    unasked_meets (g.C.Cluster.takes c.args.cluster.now) c.args.author (λ (m n : Machine). ◌≡◌ {A = Reply × Machine} (alters m body) (replies.Refused (refusals.BadToken c.valid_up_to.result), n)) (g.C.Cluster.zero c.args.cluster.now) c.requires.legal
+    unasked_meets (g.C.Cluster.takes c.args.cluster.now) c.args.author (λ (m n : Machine). ◌≡◌ {A = Reply × Machine} (alters m body) (replies.Refused (refusals.BadToken c.valid_up_to.result), n)) (g.C.Cluster.zero c.args.cluster.now) c.history_is_legal.ensures
     (λ m. alters_unread m body c.valid_up_to.result at (not_whole body _ c.in-Err.ensures.cases.1))

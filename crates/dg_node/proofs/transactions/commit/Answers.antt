@@ -19,7 +19,7 @@ returns-in_default-clause-ok g c =
     let z = g.C.Cluster.zero c.args.cluster.now in
     none_serves (g.C.Cluster.takes c.args.cluster.now) c.args.author c.args.sid c.args.session.now c.args.session.now z
     (λ (m n : Machine). ◌≡◌ {A = Reply × Machine} (committed m c.args.sid) (c.no_session.result, n))
-    c.in_default.is c.in_default.is c.requires.legal
+    c.in_default.is c.in_default.is c.history_is_legal.ensures
     (λ ss a. no_commit (machine_beside z ss) c.args.sid (none_found c.args.sid ss a) ∙ ap (λ (r : Reply). (r, machine_beside z ss)) (sym c.no_session.ensures))
 
 pub returns-in-Ok-clause-ok : goal.returns-in-Ok-clause-ok

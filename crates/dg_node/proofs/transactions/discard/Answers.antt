@@ -20,5 +20,5 @@ returns-in-None-clause-ok g c =
     let z = g.C.Cluster.zero c.args.cluster.now in
     none_serves (g.C.Cluster.takes c.args.cluster.now) c.args.author c.args.sid c.args.session.now c.take.new.self z
     (λ m n. ◌≡◌ {A = Reply × Machine} (discarded m c.args.sid) (c.no_session.result, n))
-    (sym c.take.ensures.value ∙ c.in-None.is) c.take.ensures.after c.requires.legal
+    (sym c.take.ensures.value ∙ c.in-None.is) c.take.ensures.after c.history_is_legal.ensures
     (λ ss a. no_discard (machine_beside z ss) c.args.sid (none_found c.args.sid ss a) ∙ ap (λ (r : Reply). (r, machine_beside z ss)) (sym c.no_session.ensures))

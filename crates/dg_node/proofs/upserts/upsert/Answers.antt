@@ -23,7 +23,7 @@ returns-in-None-clause-ok g c =
     let body = c.args.body.now in
     let z = g.C.Cluster.zero c.args.cluster.now in
     let list = g.P.Patterns.refused c.args.patterns.now in
-    none_serves (g.C.Cluster.takes c.args.cluster.now) c.args.author sid c.args.session.now c.args.session.now z (λ m n. Upserts list m sid body c.no_session.result n) c.in-None.is c.in-None.is c.requires.legal
+    none_serves (g.C.Cluster.takes c.args.cluster.now) c.args.author sid c.args.session.now c.args.session.now z (λ m n. Upserts list m sid body c.no_session.result n) c.in-None.is c.in-None.is c.history_is_legal.ensures
     (λ ss a. subst (λ (p : Reply). Upserts list (machine_beside z ss) sid body p (machine_beside z ss)) (sym c.no_session.ensures) (none_upserts list sid body (machine_beside z ss) (none_found sid ss a)))
 
 pub returns-in-Ok-clause-ok : goal.returns-in-Ok-clause-ok
@@ -71,4 +71,4 @@ returns-in-Err-clause-ok g c =
     let at : utf8_valid_len body ≡ c.valid_up_to.result = sym (c.valid_up_to.ensures ∙ c.in-Err.ensures.valid_len) in
     subst (λ (old : Option Transaction). Meets takes z z (Serves author sid old (Some txn) (λ m n. Upserts list m sid body (replies.Refused (refusals.BadToken c.valid_up_to.result)) n))) (sym c.in-Some.is)
     (subst (λ (offset : ℕ). Meets takes z z (Serves author sid (Some txn) (Some txn) (λ m n. Upserts list m sid body (replies.Refused (refusals.BadToken offset)) n))) at
-    (no_block_here takes author sid txn z c.requires.legal list body (not_whole body _ c.in-Err.ensures.cases.1)))
+    (no_block_here takes author sid txn z c.history_is_legal.ensures list body (not_whole body _ c.in-Err.ensures.cases.1)))
