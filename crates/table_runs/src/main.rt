@@ -36,28 +36,53 @@ fn main(rt: HostRuntime) -> Result<()> {
     }
 }
 
-// Answers each row in turn. Empty lines and those that begin with `#` are passed over.
+// Answers each row in turn.
 fn run<R: Input + Print + Threads + Wait + Sync>(rt: &R, alloc: Global) -> Result<()> {
     let mut section = Section::new(alloc);
     for line in rt.lines(alloc) {
         let line = line?;
-        let row = line.as_str();
-        if row.is_empty() || row.starts_with('#') {
-            continue;
-        }
-        if let Some(next) = Section::begun_by(alloc, row) {
-            section.print_end(rt)?;
-            section = next;
-            section.print_front(rt, alloc)?;
-            continue;
-        }
-        match &mut section {
-            Section::Runs { script } => print_row(rt, row, answer(rt, alloc, script, row))?,
-            Section::Groups { kept } => groups::print_row(rt, alloc, kept, row)?,
-            Section::Bench => println!(rt; "? {row}")?,
-        }
+        answer_line(rt, alloc, &mut section, line.as_str())?;
     }
     section.print_end(rt)?;
+    Ok(())
+}
+
+// Enters the section that a row begins, or answers the row where it stands. Empty lines and those that begin with `#` are
+// passed over.
+fn answer_line<R: Print + Threads + Wait + Sync>(
+    rt: &R,
+    alloc: Global,
+    section: &mut Section,
+    row: &str,
+) -> Result<()> {
+    if row.is_empty() || row.starts_with('#') {
+        return Ok(());
+    }
+    match Section::begun_by(alloc, row) {
+        Some(next) => enter(rt, alloc, section, next),
+        None => answer_row(rt, alloc, section, row),
+    }
+}
+
+// Ends a section, and begins the next one in its place.
+fn enter(rt: &impl Print, alloc: Global, section: &mut Section, next: Section) -> Result<()> {
+    section.print_end(rt)?;
+    *section = next;
+    section.print_front(rt, alloc)
+}
+
+// Answers a row of a section.
+fn answer_row<R: Print + Threads + Wait + Sync>(
+    rt: &R,
+    alloc: Global,
+    section: &mut Section,
+    row: &str,
+) -> Result<()> {
+    match section {
+        Section::Runs { script } => print_row(rt, row, answer(rt, alloc, script, row))?,
+        Section::Groups { kept } => groups::print_row(rt, alloc, kept, row)?,
+        Section::Bench => println!(rt; "? {row}")?,
+    }
     Ok(())
 }
 

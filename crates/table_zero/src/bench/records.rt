@@ -9,6 +9,14 @@ use std::time::Clock;
 // How many timestamps beside each other are asked for.
 const NEAR: u64 = 100;
 
+// Calls of one state of Zero: near its first record, in the middle, and near the last.
+#[derive(Clone, Copy)]
+struct Made {
+    first: Calls,
+    middle: Calls,
+    last: Calls,
+}
+
 // Prints what it costs to find the next record near the first of so many, in the middle, and near the last.
 pub(crate) fn print_records(
     rt: &(impl Print + Clock),
@@ -20,16 +28,36 @@ pub(crate) fn print_records(
     let mut middle = Series::new(plan, "records, the next one in the middle");
     let mut last = Series::new(plan, "records, the next one near the last");
     for size in sizes {
-        let mirror = filled(alloc, *size, Subjects::Fresh)?;
-        let zero = &mirror.zero;
-        // A transaction draws two timestamps.
-        let newest = size.saturating_mul(2);
-        first.print(rt, measured(rt, alloc, plan, zero, *size, 0)?)?;
-        middle.print(rt, measured(rt, alloc, plan, zero, *size, *size)?)?;
-        let from = newest.saturating_sub(NEAR);
-        last.print(rt, measured(rt, alloc, plan, zero, *size, from)?)?;
+        let made = measured_of(rt, alloc, plan, *size)?;
+        first.print(rt, made.first)?;
+        middle.print(rt, made.middle)?;
+        last.print(rt, made.last)?;
     }
     Ok(())
+}
+
+// Calls of a state with so many records.
+fn measured_of(rt: &impl Clock, alloc: Global, plan: Plan, size: u64) -> Result<Made> {
+    let mirror = filled(alloc, size, Subjects::Fresh)?;
+    measured_at(rt, alloc, plan, &mirror.zero, size)
+}
+
+// Calls of a state of Zero that has so many records.
+fn measured_at(
+    rt: &impl Clock,
+    alloc: Global,
+    plan: Plan,
+    zero: &ZeroState,
+    size: u64,
+) -> Result<Made> {
+    // A transaction draws two timestamps.
+    let newest = size.saturating_mul(2);
+    let from = newest.saturating_sub(NEAR);
+    Ok(Made {
+        first: measured(rt, alloc, plan, zero, size, 0)?,
+        middle: measured(rt, alloc, plan, zero, size, size)?,
+        last: measured(rt, alloc, plan, zero, size, from)?,
+    })
 }
 
 // Calls from a timestamp on.
