@@ -70,7 +70,7 @@ impl Form {
         }
         match self {
             Form::Hot => text.push_str("begin 2\n")?,
-            Form::Begins | Form::Reads => push_large(alloc, &mut text, count)?,
+            Form::Begins | Form::Reads => push_loaded(alloc, &mut text, count)?,
             _ => {}
         }
         Ok(text)
@@ -139,6 +139,13 @@ fn push_large(alloc: Global, text: &mut String, count: u64) -> Result<()> {
         push_frame(alloc, text, "mutate 1", body.as_str())?;
     }
     text.push_str("commit 1\n")?;
+    Ok(())
+}
+
+// One transaction whose changes the groups have: they apply a commit when the next transaction begins.
+fn push_loaded(alloc: Global, text: &mut String, count: u64) -> Result<()> {
+    push_large(alloc, text, count)?;
+    text.push_str("begin 1\ndiscard 1\n")?;
     Ok(())
 }
 
